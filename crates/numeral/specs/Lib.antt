@@ -1,0 +1,4 @@
+-- What the contracts of `numeral` cite.
+pub mod Digits
+pub mod Numerals
+pub mod Reading

@@ -1,0 +1,24 @@
+-- Which bytes are a numeral, and of which number: document 01, 'Line forms'. Every reader of numerals is proved against these two
+-- relations, and a numeral's spelling is known by them alone.
+use mathlib.Core.Path.{_≡_}
+use mathlib.Core.List.{List, [], _∷_}
+use Prim.Native.Nat.{ℕ, suc, _≤_}
+use lib.IntN.{ℤ, pos, negsuc}
+use lib.ListN.{length}
+use Rattle.numeral.specs.Digits.{digits}
+
+-- 'A numeral is 1 to 19 digits, with no leading zero unless it is 0 itself': the spelling of a number, of at most 19 digits. That these
+-- are the bytes that the sentence describes is `sentence` of proofs/Numerals.antt.
+pub record Numeral (n : ℕ) (s : List ℕ) : Type 0 where
+  pub spelling : s ≡ digits n
+  pub most : length s ≤ 19
+
+-- 'and one '-' before it if negative; -0 is no numeral.' (45 is '-'.)
+abbrev pub SignedNumeral : ℤ → List ℕ → Type 0
+SignedNumeral (pos n) s = Numeral n s
+SignedNumeral (negsuc n) s = (m : List ℕ) × Numeral (suc n) m × (s ≡ 45 ∷ m)
+
+-- The sentence, word by word: digits only, 1 to 19 of them, and the first is 0 (48) only if it is the one digit.
+data AllDigits : List ℕ → Type 0 where
+  none : AllDigits []
+  one : {b : ℕ} {s : List ℕ} → 48 ≤ b → b ≤ 57 → AllDigits s → AllDigits (b ∷ s)

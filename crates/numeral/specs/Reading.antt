@@ -1,0 +1,45 @@
+-- What the readers of numerals answer, for any bytes and any place. `proofs/Numerals.antt` proves that a numeral is answered exactly
+-- where one begins whose digits do not go on.
+use mathlib.Core.Bool.{Bool, true, false, not, _&&_, _||_}
+use mathlib.Core.List.{List, [], _∷_}
+use Prim.Native.Nat.{ℕ, zero, suc, _+_, _-_, _*_}
+use lib.Dec.{leb, eqb}
+use lib.ListN.{length, drop}
+use lib.IntN.{ℤ, pos, negℤ}
+use Rattle.numeral.specs.Digits.{choose}
+use Rattle.numeral.specs.declared.read.Digit.{Digit}
+use Rattle.numeral.specs.declared.read.Digit.the-variants as D
+use Rattle.numeral.specs.declared.read.Number.{Number}
+use Rattle.numeral.specs.declared.read.Number.the-variants as N
+
+-- The byte is a digit, '0' (48) to '9' (57).
+unfoldable pub isDigit : ℕ → Bool
+isDigit b = leb 48 b && leb b 57
+
+-- The digit that the bytes begin with.
+unfoldable pub digitIn : List ℕ → Digit
+digitIn [] = D.Other
+digitIn (b ∷ s) = choose (isDigit b) (λ _. D.Of (b - 48)) (λ _. D.Other)
+
+-- The digits that the bytes begin with, all of them up to the first other byte.
+unfoldable pub run : List ℕ → List ℕ
+run [] = []
+run (b ∷ s) = choose (isDigit b) (λ _. b ∷ run s) (λ _. [])
+
+-- The number that digits spell, read after digits that spell v.
+unfoldable pub valueFrom : ℕ → List ℕ → ℕ
+valueFrom v [] = v
+valueFrom v (b ∷ s) = valueFrom (v * 10 + (b - 48)) s
+
+-- The digits are 1 to 19, and the first is 0 only if it is the one digit.
+unfoldable pub wellFormed : List ℕ → Bool
+wellFormed [] = false
+wellFormed (b ∷ s) = leb (length s) 18 && (eqb (length s) 0 || not (eqb b 48))
+
+-- The number of the numeral that begins at the place, with the place after it; or that none does.
+unfoldable pub numberIn : List ℕ → ℕ → Number
+numberIn digits at =
+    choose (wellFormed digits) (λ _. N.Of (valueFrom 0 digits) (at + length digits)) (λ _. N.Absent)
+
+unfoldable pub numberAt : List ℕ → ℕ → Number
+numberAt line at = numberIn (run (drop at line)) at

@@ -1,0 +1,2 @@
+// Base-ten numerals: document 01, 'Line forms'.
+pub mod read;
