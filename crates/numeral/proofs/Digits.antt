@@ -6,7 +6,8 @@ use Prim.Native.Nat.{ℕ, zero, suc, _+_, _/_, _%_, _^_, _<_, _≤_}
 use native.Mathlib.Omega.{arith}
 use borrow.Author.Tests.{lt-ltb, le-ltb, ltb-true, ltb-false}
 use lib.Dec.{ltb}
-use Rattle.numeral.specs.Digits.{choose, digitsIn, digits}
+use Rattle.text.specs.Words.{choose}
+use Rattle.numeral.specs.Digits.{digitsIn, digits}
 
 -- a number below 10 is one digit, whatever the bound
 one-in : (k n : ℕ) → n < 10 → digitsIn (suc k) n ≡ (48 + n) ∷ []

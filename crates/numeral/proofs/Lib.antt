@@ -1,3 +1,5 @@
 -- Laws about the definitions of specs/.
 pub mod Digits
 pub mod Reading
+pub mod Numerals
+pub mod SignedNumerals

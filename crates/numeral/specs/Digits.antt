@@ -5,11 +5,7 @@ use mathlib.Core.List.{List, [], _∷_, _++_}
 use Prim.Native.Nat.{ℕ, zero, suc, _+_, _/_, _%_, _^_, _<_}
 use lib.Dec.{ltb}
 use lib.IntN.{ℤ, pos, negsuc}
-
--- One of two values; the other is not computed.
-abbrev pub choose : {A : Type 0} → Bool → (Unit {0} → A) → (Unit {0} → A) → A
-choose true a b = a tt
-choose false a b = b tt
+use Rattle.text.specs.Words.{choose}
 
 -- The digits of n in base ten, the first one first, as the bytes '0' (48) to '9' (57), if n has at most `most` digits.
 unfoldable pub digitsIn : ℕ → ℕ → List ℕ

@@ -5,16 +5,25 @@ use mathlib.Core.List.{List, [], _∷_}
 use Prim.Native.Nat.{ℕ, zero, suc, _+_, _-_, _*_}
 use lib.Dec.{leb, eqb}
 use lib.ListN.{length, drop}
-use lib.IntN.{ℤ, pos, negℤ}
-use Rattle.numeral.specs.Digits.{choose}
+use lib.IntN.{ℤ, pos, negsuc, negℤ}
+use Rattle.text.specs.Words.{choose, wordAt}
+use Rattle.text.specs.declared.words.Word.{Word}
+use Rattle.text.specs.declared.words.Word.the-variants.{After, Other}
 use Rattle.numeral.specs.declared.read.Digit.{Digit}
 use Rattle.numeral.specs.declared.read.Digit.the-variants as D
 use Rattle.numeral.specs.declared.read.Number.{Number}
 use Rattle.numeral.specs.declared.read.Number.the-variants as N
+use Rattle.numeral.specs.declared.read.Signed.{Signed}
+use Rattle.numeral.specs.declared.read.Signed.the-variants as S
 
 -- The byte is a digit, '0' (48) to '9' (57).
 unfoldable pub isDigit : ℕ → Bool
 isDigit b = leb 48 b && leb b 57
+
+-- The bytes begin with no digit: they are none, or the first is another byte.
+unfoldable pub noDigit : List ℕ → Bool
+noDigit [] = true
+noDigit (b ∷ s) = not (isDigit b)
 
 -- The digit that the bytes begin with.
 unfoldable pub digitIn : List ℕ → Digit
@@ -43,3 +52,31 @@ numberIn digits at =
 
 unfoldable pub numberAt : List ℕ → ℕ → Number
 numberAt line at = numberIn (run (drop at line)) at
+
+-- The magnitude and the sign of the signed numeral that begins at the place, with the place after it; or that none does.
+unfoldable pub plain : Number → Signed
+plain (N.Of magnitude next) = S.Of false magnitude next
+plain N.Absent = S.Absent
+
+-- -0 is no numeral
+unfoldable pub negated : Number → Signed
+negated (N.Of magnitude next) = choose (eqb magnitude 0) (λ _. S.Absent) (λ _. S.Of true magnitude next)
+negated N.Absent = S.Absent
+
+-- after a '-' (45), or without one
+unfoldable pub signedFrom : Word → List ℕ → ℕ → Signed
+signedFrom (After first) line at = negated (numberAt line first)
+signedFrom Other line at = plain (numberAt line at)
+
+unfoldable pub signedAt : List ℕ → ℕ → Signed
+signedAt line at = signedFrom (wordAt line at (45 ∷ [])) line at
+
+-- The integer of a sign and a magnitude.
+abbrev pub integer : Bool → ℕ → ℤ
+integer true magnitude = negℤ (pos magnitude)
+integer false magnitude = pos magnitude
+
+-- The sign of an integer.
+abbrev pub negative : ℤ → Bool
+negative (pos n) = false
+negative (negsuc n) = true

@@ -1,6 +1,8 @@
+use text::words::Word;
+use text::words::word_at;
 ghost use mathlib.Core.Path.{_≡_};
 ghost use lib.ListN.{drop};
-ghost use Rattle.numeral.specs.Reading.{digitIn, numberAt};
+ghost use Rattle.numeral.specs.Reading.{digitIn, numberAt, signedAt};
 
 // A digit's value, or another byte, or the end of the line.
 enum Digit {
@@ -11,6 +13,16 @@ enum Digit {
 // A numeral's number with the place after it, or that no numeral begins at the place.
 pub enum Number {
     Of(u64, usize),
+    Absent,
+}
+
+// A signed numeral's sign and magnitude with the place after it, or that none begins at the place. Nineteen digits may exceed an i64.
+pub enum Signed {
+    Of {
+        negative: bool,
+        magnitude: u64,
+        next: usize,
+    },
     Absent,
 }
 
@@ -56,4 +68,31 @@ pub fn read_number(line: &[u8], at: usize) -> Number
         }
     }
     Number::Of(value, next)
+}
+
+// -0 is no numeral.
+pub fn read_signed(line: &[u8], at: usize) -> Signed
+    ensures { λ r. ⌜ r ≡ signedAt (now (line .entry)) at ⌝ }
+{
+    let Word::After(first) = word_at(line, at, b"-") else {
+        let Number::Of(magnitude, next) = read_number(line, at) else {
+            return Signed::Absent;
+        };
+        return Signed::Of {
+            negative: false,
+            magnitude,
+            next,
+        };
+    };
+    let Number::Of(magnitude, next) = read_number(line, first) else {
+        return Signed::Absent;
+    };
+    if magnitude == 0 {
+        return Signed::Absent;
+    }
+    Signed::Of {
+        negative: true,
+        magnitude,
+        next,
+    }
 }
