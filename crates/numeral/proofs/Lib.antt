@@ -3,3 +3,5 @@ pub mod Digits
 pub mod Reading
 pub mod Numerals
 pub mod SignedNumerals
+pub mod Sign
+pub mod Writing

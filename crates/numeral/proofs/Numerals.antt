@@ -5,7 +5,7 @@ use mathlib.Core.Bool.{Bool, true, false, not}
 use mathlib.Core.Logic.{_↔_}
 use mathlib.Core.List.{List, [], _∷_, _++_, append-assoc, append-nil}
 use Prim.Native.Nat.{ℕ, zero, suc, _+_, _-_, _*_, _/_, _%_, _^_, _<_, _≤_}
-use native.Mathlib.Nat.{pow-suc, lt-of-not-le}
+use native.Mathlib.Nat.{lt-of-not-le}
 use native.Mathlib.Omega.{arith}
 use borrow.Author.Tests.{ltb-true, ltb-false, leb-true, leb-false, not-true}
 use lib.Dec.{leb, ltb, eqb}
@@ -17,7 +17,7 @@ use Rattle.numeral.specs.Numerals.{Numeral, AllDigits, none, more, Descr
 use Rattle.numeral.specs.Reading.{isDigit, noDigit, run, valueFrom, wellFormed, numberIn, numberAt}
 use Rattle.numeral.specs.declared.read.Number.{Number}
 use Rattle.numeral.specs.declared.read.Number.the-variants as N
-use Rattle.numeral.proofs.Digits.{digits-one, digits-more}
+use Rattle.numeral.proofs.Digits.{digits-one, digits-more, digits-some}
 use Rattle.numeral.proofs.Reading.{is-digit, digit-bounds, formed-one, formed-more, formed-not-empty, formed-not-long, formed-not-zero}
 
 -- ---- the digits of a number, by their last one
@@ -46,28 +46,6 @@ digits-all =
     ten-ind (λ n. AllDigits (digits n))
     (λ n h. rw (digits-one n h) (one-digit n h))
     (λ n h r. rw (digits-more n h) (all-append r (one-digit (n % 10) (omega arith))))
-
-pub digits-some : (n : ℕ) → 1 ≤ length (digits n)
-digits-some =
-    ten-ind (λ n. 1 ≤ length (digits n))
-    (λ n h. rw (digits-one n h) (omega arith))
-    (λ n h r. rw (digits-more n h) (omega (arith, length-append (digits (n / 10)) ((48 + n % 10) ∷ []))))
-
--- a number of k digits or fewer is below 10 ^ k
-pub digits-bound : (n k : ℕ) → n < 10 ^ suc k → length (digits n) ≤ suc k
-digits-bound n k h = bound n k h
-  where
-    bound : (n k : ℕ) → n < 10 ^ suc k → length (digits n) ≤ suc k
-    bound n =
-        ten-ind (λ n. (k : ℕ) → n < 10 ^ suc k → length (digits n) ≤ suc k)
-        (λ n h k l. rw (digits-one n h) (omega arith))
-        (λ n h r k l. rw (digits-more n h) (step n h r k l)) n
-      where
-        step : (n : ℕ) → 10 ≤ n → ((k : ℕ) → n / 10 < 10 ^ suc k → length (digits (n / 10)) ≤ suc k) → (k : ℕ) → n < 10 ^ suc k → length (digits (n / 10) ++ (48 + n % 10) ∷ []) ≤ suc k
-        step n h r zero l = absurd (omega arith)
-        step n h r (suc k) l =
-            let wider : n < 10 ^ suc k * 10 = rw (← pow-suc 10 (suc k)) l in
-            omega (arith, length-append (digits (n / 10)) ((48 + n % 10) ∷ []), r k (omega arith))
 
 -- no zero before them
 pub digits-lead : (n : ℕ) → 0 < n → getD (digits n) 0 0 ≡ 48 → ⊥

@@ -1,2 +1,3 @@
 // Base-ten numerals: document 01, 'Line forms'.
 pub mod read;
+pub mod write;

@@ -1,20 +1,20 @@
 -- Laws of `Put`: what a write leaves where there is room and where there is none, and that two writes one after the other are one. By the one test of the definitions.
 use mathlib.Core.Path.{_≡_, refl, sym, ap, _∙_}
 use mathlib.Core.Bool.{Bool, true, false}
-use mathlib.Core.List.{List, [], _∷_, _++_, append-assoc}
+use mathlib.Core.List.{List, _++_, append-assoc}
 use Prim.Native.Nat.{ℕ, _+_, _≤_, _<_}
 use native.Mathlib.Omega.{arith}
 use borrow.Author.Tests.{le-leb, lt-leb, leb-true, leb-false}
 use lib.Dec.{leb}
 use lib.ListN.{length, take, drop, length-append, length-take, length-drop}
-use lib.Seq.{take-at, drop-at, drop-drop, take-length, paste}
-use Rattle.text.specs.Words.{choose}
+use lib.Seq.{take-at, drop-at, drop-drop}
 use Rattle.text.specs.Output.{outputWith, placeAfter, Put}
 
 -- the output after a write for which there is room
 abbrev pub written : List ℕ → ℕ → List ℕ → List ℕ
 written b at s = take at b ++ s ++ drop (at + length s) b
 
+-- how a write is shown, and what is known of one: with room for the bytes, and without
 pub room-put : {b s a : List ℕ} {at n : ℕ} → at + length s ≤ length b → a ≡ written b at s → n ≡ at + length s → Put b at s a n
 unfolding outputWith placeAfter
 room-put {b} {s} {a} {at} {n} h e p = record { output = rw (le-leb (at + length s) (length b) h) e; place = rw (le-leb (at + length s) (length b) h) p }
@@ -47,6 +47,10 @@ put-length {b} {s} {a} {at} {n} p = go (leb (at + length s) (length b)) refl
         ap length (put-room h p .0) ∙ length-written b at s h
     go false e = ap length (put-none (leb-false (at + length s) (length b) e) p .0)
 
+-- the bytes put, said another way
+pub put-same : {b s t a : List ℕ} {at n : ℕ} → Put b at s a n → s ≡ t → Put b at t a n
+put-same p e = rw e at p
+
 -- two writes one after the other are one write of both
 pub put-both : {b s a t c : List ℕ} {at n m : ℕ} → Put b at s a n → Put a n t c m → at + length s + length t ≤ length b → Put b at (s ++ t) c m
 put-both {b} {s} {a} {t} {c} {at} {n} {m} p q h =
@@ -58,6 +62,6 @@ put-both {b} {s} {a} {t} {c} {at} {n} {m} p q h =
     let kept : take n a ≡ take at b ++ s = rw (e, d) (take-at (take at b ++ s) (drop (at + length s) b) (at + length s) front) in
     let rest : drop n a ≡ drop (at + length s) b = rw (e, d) (drop-at (take at b ++ s) (drop (at + length s) b) (at + length s) front) in
     let end : at + length s + length t ≡ at + length (s ++ t) = omega arith in
-    let after : drop (n + length t) a ≡ drop (at + length (s ++ t)) b =
-    sym (drop-drop (length t) n a) ∙ ap (λ (r : List ℕ). drop (length t) r) rest ∙ drop-drop (length t) (at + length s) b ∙ ap (λ (k : ℕ). drop k b) end in
+    let past : drop (length t) (drop n a) ≡ drop (at + length s + length t) b = rw rest (drop-drop (length t) (at + length s) b) in
+    let after : drop (n + length t) a ≡ drop (at + length (s ++ t)) b = sym (drop-drop (length t) n a) ∙ past ∙ ap (λ (k : ℕ). drop k b) end in
     room-put (omega arith) (f ∙ rw (kept, after, append-assoc (take at b) s t)) (omega arith)

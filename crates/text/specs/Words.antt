@@ -3,7 +3,9 @@ use mathlib.Core.Path.{_≡_}
 use mathlib.Core.Bool.{Bool, true, false, _&&_}
 use mathlib.Core.List.{List, [], _∷_, _++_}
 use Prim.Native.Nat.{ℕ, _+_}
+use Prim.Native.Char.{code}
 use Prim.Native.String.{String}
+use Prim.Native.String as Text
 use lib.Dec.{eqb}
 use lib.ListN.{length, drop}
 use Rattle.text.specs.declared.words.Word.{Word}
@@ -13,6 +15,11 @@ use Rattle.text.specs.declared.words.Word.the-variants.{After, Other}
 abbrev pub choose : {A : Type 0} → Bool → (Unit {0} → A) → (Unit {0} → A) → A
 choose true a b = a tt
 choose false a b = b tt
+
+-- The bytes of a text: the code of each of its characters.
+abbrev pub bytes : String → List ℕ
+bytes Text.[] = []
+bytes (Text._∷_ c s) = code c ∷ bytes s
 
 -- The line begins with the word.
 unfoldable pub startsWith : List ℕ → List ℕ → Bool

@@ -1,0 +1,5 @@
+-- What the contracts of `command` cite.
+pub mod Forms
+pub mod Limits
+pub mod Reading
+pub mod Grammar

@@ -1,0 +1,2 @@
+-- What the contracts of `moment` cite.
+pub mod Moment

@@ -1,0 +1,57 @@
+ghost use mathlib.Core.Path.{_≡_};
+ghost use Prim.Native.Nat.{_<_};
+ghost use lib.IntN.{natAbs};
+ghost use lib.ListN.{length, drop};
+ghost use Rattle.numeral.specs.Digits.{digits, signedDigits};
+ghost use Rattle.text.specs.Output.{Put};
+
+// Spells n at the end of the bytes, from the last digit back, and gives the place of its first digit. 20 bytes hold every u64, and the sign and the digits of every i64.
+fn spell(bytes: &mut [u8], n: u64) -> usize
+    requires { ⌜ length (now bytes) ≡ 20 ⌝ }
+    ensures { λ r. ⌜ (drop r (now (bytes .exit)) ≡ digits n) × (r < 20) ⌝ }
+{
+    let mut left = n;
+    let mut from = 20;
+    while 10 <= left {
+        from -= 1;
+        bytes[from] = (48 + left % 10) as u8;
+        left /= 10;
+    }
+    from -= 1;
+    bytes[from] = (48 + left) as u8;
+    from
+}
+
+// Puts the spelling of n at a place of the output and gives the place after it, as `text::output::put_bytes` does.
+pub fn put_number(out: &mut [u8], at: usize, n: u64) -> usize
+    ensures { λ r. ⌜ Put (now (out .entry)) at (digits n) (now (out .exit)) r ⌝ }
+{
+    let mut bytes = [0u8; 20];
+    let from = spell(&mut bytes, n);
+    text::output::put_bytes(out, at, &bytes[from..])
+}
+
+// How far z is from 0. `-(z + 1)` is in range at the least z too.
+fn magnitude(z: i64) -> u64
+    ensures { λ r. ⌜ r ≡ natAbs z ⌝ }
+{
+    if z < 0 {
+        (-(z + 1)) as u64 + 1
+    } else {
+        z as u64
+    }
+}
+
+// The same of a signed number: its magnitude, and one '-' before it if it is negative.
+pub fn put_signed(out: &mut [u8], at: usize, z: i64) -> usize
+    ensures { λ r. ⌜ Put (now (out .entry)) at (signedDigits z) (now (out .exit)) r ⌝ }
+{
+    let n = magnitude(z);
+    if z < 0 {
+        let mut bytes = [0u8; 20];
+        let from = spell(&mut bytes, n) - 1;
+        bytes[from] = b'-';
+        return text::output::put_bytes(out, at, &bytes[from..]);
+    }
+    put_number(out, at, n)
+}
