@@ -16,13 +16,13 @@ use Rattle.numeral.specs.Reading.{isDigit}
 use Rattle.command.specs.Forms as F
 use Rattle.command.specs.Forms.{Form, Part, Spells, parts, IsSpelling}
 use Rattle.command.specs.Limits.{keeps, commandOf, formOf, limited, longestLine}
-use Rattle.command.specs.Reading.{Kind, Values, Shape, startShape, passShape, requestShape, replyShape, dropShape, readShape, waitingShape, shapes, readParts, formed, byWord, parseAs, parse, judged, readingOf}
+use Rattle.command.specs.Reading.{Kind, Values, Shape, startShape, passShape, requestShape, replyShape, dropShape, readShape, waitingShape, shapes, readParts, formed, byWord, parseAs, parse, judged, shapedFrom, readingOf}
 use Rattle.command.specs.Grammar.{Shaped, ReadsTheGrammar}
 use Rattle.command.specs.declared.Command.{Command}
 use Rattle.command.specs.declared.Command.the-variants as C
 use Rattle.command.specs.declared.Reading.{Reading}
 use Rattle.command.specs.declared.Reading.the-variants.{Accepted, NoShape, OutsideLimits}
-use Rattle.command.proofs.Parts.{partsOf, sound, complete, apart, rest-is}
+use Rattle.command.proofs.PartLaws.{partsOf, sound, complete, apart, rest-is}
 
 -- ---- what is parsed is a spelling
 
@@ -122,6 +122,17 @@ parse-complete F.waiting line h = find-shape 5 waitingShape _ line tt refl refl 
 parse-complete (F.start board rule claim edges) line h =
     find-shape 6 startShape _ line (board, (rule, (claim, (edges .lower, (edges .upper, tt))))) refl refl refl h
 
+-- ---- the shape that the code tries next
+
+module _ (s : Shape) (ss : List Shape) (line : List ℕ) where
+  pub shape-other : wordAt line 0 (bytes (s .word)) ≡ Other → parseAs (s ∷ ss) line ≡ parseAs ss line
+  unfolding parseAs
+  shape-other e = rw e
+
+  pub shape-taken : (at : ℕ) → wordAt line 0 (bytes (s .word)) ≡ After at → judged (parseAs (s ∷ ss) line) ≡ shapedFrom s line at
+  unfolding parseAs shapedFrom
+  shape-taken at e = rw e
+
 -- ---- the theorem
 
 command-form : (f : Form) (c : Command) → commandOf f ≡ c → f ≡ formOf c
@@ -171,11 +182,11 @@ answer line = by-length (leb (length line) longestLine) refl
     by-length true e = by-form (parse line) (leb-true (length line) longestLine e) refl
     by-length false e = no-shape (rw e) (λ f s. omega (arith, leb-false (length line) longestLine e, s .short))
 
-limited-keeps : (f : Form) → keeps f ≡ true → limited f ≡ Accepted (commandOf f)
+pub limited-keeps : (f : Form) → keeps f ≡ true → limited f ≡ Accepted (commandOf f)
 unfolding limited
 limited-keeps f e = rw e
 
-limited-breaks : (f : Form) → keeps f ≡ false → limited f ≡ OutsideLimits
+pub limited-breaks : (f : Form) → keeps f ≡ false → limited f ≡ OutsideLimits
 unfolding limited
 limited-breaks f e = rw e
 

@@ -1,3 +1,4 @@
 -- Laws about the definitions of specs/.
-pub mod Parts
+pub mod PartLaws
 pub mod GrammarLaws
+pub mod LimitLaws

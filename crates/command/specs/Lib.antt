@@ -2,4 +2,5 @@
 pub mod Forms
 pub mod Limits
 pub mod Reading
+pub mod Parts
 pub mod Grammar

@@ -143,10 +143,15 @@ parseAs (s ∷ ss) line =
 unfoldable pub parse : List ℕ → Option Form
 parse line = parseAs shapes line
 
--- 'line is no command shape, or over 120 bytes' is refusal 1, and comes before refusal 2.
+-- 'line is no command shape' is refusal 1, and comes before refusal 2.
 abbrev pub judged : Option Form → Reading
 judged none = NoShape
 judged (some f) = limited f
 
+-- What a line is that begins with the shape's text, and goes on at the place.
+unfoldable pub shapedFrom : Shape → List ℕ → ℕ → Reading
+shapedFrom s line at = judged (formed (s .form) (readParts (s .kinds) line at))
+
+-- 'or over 120 bytes'
 unfoldable pub readingOf : List ℕ → Reading
 readingOf line = choose (leb (length line) longestLine) (λ _. judged (parse line)) (λ _. NoShape)

@@ -1,6 +1,11 @@
 // Command lines: document 01, 'Line forms'. The reader takes a line of any bytes and any length.
 use moment::Interval;
 
+mod forms;
+mod limits;
+mod parts;
+pub mod reader;
+
 // 'RULE is `im` or `mm`'
 pub enum Rule {
     Im,

@@ -27,6 +27,8 @@ use Rattle.numeral.proofs.SignedNumerals.{signed-read, read-signed, integer-is}
 use Rattle.command.specs.Forms as F
 use Rattle.command.specs.Forms.{Part, IsPart, Spells, ruleText}
 use Rattle.command.specs.Reading.{Kind, text, rule, number, edge, Values, before, afterWord, afterRule, afterNumber, afterSigned, readParts}
+use Rattle.command.specs.Parts.{ruleFrom, ruleAt}
+use Rattle.command.specs.declared.parts.RuleAt.the-variants as R
 use Rattle.command.specs.declared.Rule.{Rule}
 use Rattle.command.specs.declared.Rule.the-variants.{Im, Mm}
 
@@ -178,3 +180,30 @@ complete (edge ∷ ks) a line at v (s, rest, p, f, h) =
       complete ks (apartness .1) line (at + length s) (v .1) (rw (rest-is line at s rest f) h),
       integer-is (v .0),
     )
+
+-- ---- the rule that the code found
+
+module _ {A : Type 0} (line : List ℕ) (at : ℕ) (k : Rule → ℕ → Option A) where
+  pub rule-found : (r : Rule) (next : ℕ) → ruleAt line at ≡ R.Of r next → afterRule (wordAt line at (bytes (ruleText Im))) (wordAt line at (bytes (ruleText Mm))) k ≡ k r next
+  unfolding ruleAt
+  rule-found r next e = go (wordAt line at (bytes (ruleText Im))) (wordAt line at (bytes (ruleText Mm))) e
+    where
+      go : (im mm : Word) → ruleFrom im mm ≡ R.Of r next → afterRule im mm k ≡ k r next
+      go (After n) mm h =
+          let same : Im ≡ r = cc in
+          let place : n ≡ next = cc in
+          rw (same, place)
+      go Other (After n) h =
+          let same : Mm ≡ r = cc in
+          let place : n ≡ next = cc in
+          rw (same, place)
+      go Other Other h = absurd (let z : _≡_ {A = ℕ} 0 1 = cc in omega arith)
+
+  pub rule-absent : ruleAt line at ≡ R.Absent → afterRule (wordAt line at (bytes (ruleText Im))) (wordAt line at (bytes (ruleText Mm))) k ≡ none
+  unfolding ruleAt
+  rule-absent e = go (wordAt line at (bytes (ruleText Im))) (wordAt line at (bytes (ruleText Mm))) e
+    where
+      go : (im mm : Word) → ruleFrom im mm ≡ R.Absent → afterRule im mm k ≡ none
+      go (After n) mm h = absurd (let z : _≡_ {A = ℕ} 0 1 = cc in omega arith)
+      go Other (After n) h = absurd (let z : _≡_ {A = ℕ} 0 1 = cc in omega arith)
+      go Other Other h = refl

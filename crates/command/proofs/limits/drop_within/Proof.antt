@@ -1,0 +1,25 @@
+-- `command::limits::drop_within` meets its contract: the board number is the form's one limit.
+use borrow.Author.Needs.{needs}
+use borrow.Author.Tests.{not-true, not-false}
+use native.Mathlib.Omega.{arith}
+use mathlib.Core.Path.{sym, _∙_}
+use Rattle.command.specs.Forms as F
+use Rattle.command.proofs.GrammarLaws.{limited-keeps, limited-breaks}
+use Rattle.command.proofs.LimitLaws.{board-bound}
+use Rattle.command.proofs.limits.drop_within.Statement.{statement}
+use Rattle.command.proofs.limits.drop_within.Tie as tie
+
+board-within-requires : tie.Need-board-within-requires
+board-within-requires c κs = search needs
+
+returns : tie.Need-returns
+returns c = sym (limited-breaks (F.drop _) (sym (c .before .board-within .ensures) ∙ not-true _ (c .if1 .taken)))
+
+cast-t4 : tie.Need-cast-t4
+cast-t4 c = omega (arith, board-bound _ (sym (c .before .board-within .ensures) ∙ not-false _ (c .if1 .left)))
+
+returns-2 : tie.Need-returns-2
+returns-2 c = sym (limited-keeps (F.drop _) (sym (c .before .board-within .ensures) ∙ not-false _ (c .if1 .left)))
+
+pub drop-within-spec : {M : Type 1} → statement M
+drop-within-spec = tie.close (tie.spec board-within-requires returns cast-t4 returns-2)
