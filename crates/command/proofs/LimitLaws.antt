@@ -16,8 +16,10 @@ use Rattle.moment.specs.Moment.{inRange, earliest, latest}
 use Rattle.moment.specs.declared.Interval.{Interval}
 use Rattle.moment.proofs.Integers.{ints, below, make-leZ-true, make-leZ-false}
 use Rattle.moment.proofs.Intervals.{range-read, range-before, range-after}
-use Rattle.command.specs.Limits.{boardWithin, edgesWithin}
-use Rattle.command.specs.Parts.{momentOf, boundsOf}
+use Rattle.command.specs.Forms.{Form}
+use Rattle.command.specs.Limits.{boardWithin, edgesWithin, keeps, commandOf, limited}
+use Rattle.command.specs.declared.Reading.the-variants.{Accepted, OutsideLimits}
+use Rattle.command.specs.Edges.{momentOf, boundsOf}
 use Rattle.command.specs.declared.limits.Moment.{Moment}
 use Rattle.command.specs.declared.limits.Moment.the-variants as M
 use Rattle.command.specs.declared.limits.Bounds.{Bounds}
@@ -110,6 +112,16 @@ module _ (i : Interval) where
       go : (t : Bool) → edgesWithin i ≡ t → choose t (λ _. B.Within i) (λ _. B.Outside) ≡ B.Outside → edgesWithin i ≡ false
       go true e h = absurd (let k : _≡_ {A = ℕ} 0 1 = cc in omega arith)
       go false e h = e
+
+-- ---- a form, by whether it keeps its limits
+
+pub limited-keeps : (f : Form) → keeps f ≡ true → limited f ≡ Accepted (commandOf f)
+unfolding limited
+limited-keeps f e = rw e
+
+pub limited-breaks : (f : Form) → keeps f ≡ false → limited f ≡ OutsideLimits
+unfolding limited
+limited-breaks f e = rw e
 
 -- ---- a board number
 

@@ -1,6 +1,4 @@
 -- What the contracts of `command` cite.
 pub mod Forms
 pub mod Limits
-pub mod Reading
-pub mod Parts
-pub mod Grammar
+pub mod Edges

@@ -1,10 +1,7 @@
-// Command lines: document 01, 'Line forms'. The reader takes a line of any bytes and any length.
+// Commands and their limits: document 01, 'Line forms'.
 use moment::Interval;
 
-mod forms;
-mod limits;
-mod parts;
-pub mod reader;
+pub mod limits;
 
 // 'RULE is `im` or `mm`'
 pub enum Rule {

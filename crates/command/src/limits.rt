@@ -2,14 +2,18 @@
 use crate::Command;
 use crate::Reading;
 use crate::Rule;
-use crate::parts::Edge;
 use moment::Interval;
 use moment::in_range;
 ghost use mathlib.Core.Path.{_≡_};
 ghost use Rattle.command.specs.Forms.{start, pass, request, reply, drop};
 ghost use Rattle.command.specs.Limits.{boardWithin, limited};
-ghost use Rattle.command.specs.Parts.{edgeValue, momentOf, boundsOf};
-ghost use Rattle.command.specs.Reading.{interval};
+ghost use Rattle.command.specs.Edges.{edgeValue, interval, momentOf, boundsOf};
+
+// A signed numeral's sign and magnitude, whose range is not looked at yet.
+pub struct Edge {
+    pub negative: bool,
+    pub magnitude: u64,
+}
 
 // A moment of the range, or that the numeral is outside it.
 pub enum Moment {

@@ -2,7 +2,7 @@
 -- `edgesWithin`.
 use borrow.Author.Needs.{needs}
 use mathlib.Core.Path.{sym, _∙_}
-use Rattle.command.specs.Parts.{edgeValue}
+use Rattle.command.specs.Edges.{edgeValue}
 use Rattle.command.proofs.LimitLaws.{Found, found, outside-moment, crossed, ordered, bounds-first, bounds-second, bounds-crossed, bounds-kept}
 use Rattle.command.proofs.limits.bounds_of.Statement.{statement}
 use Rattle.command.proofs.limits.bounds_of.Tie as tie

@@ -4,7 +4,7 @@ use borrow.Author.Tests.{le-leb, lt-leb}
 use mathlib.Core.Path.{sym}
 use Rattle.command.specs.Forms as F
 use Rattle.command.specs.Limits.{ticksWithin}
-use Rattle.command.proofs.GrammarLaws.{limited-keeps, limited-breaks}
+use Rattle.command.proofs.LimitLaws.{limited-keeps, limited-breaks}
 use Rattle.command.proofs.limits.pass_within.Statement.{statement}
 use Rattle.command.proofs.limits.pass_within.Tie as tie
 

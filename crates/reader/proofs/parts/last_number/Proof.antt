@@ -1,0 +1,75 @@
+-- `reader::parts::last_number` meets its contract: each answer on the way is the next case of `readParts`.
+use borrow.Author.Tests.{le-leb, lt-leb}
+use mathlib.Core.Path.{sym, _∙_}
+use Rattle.reader.specs.Reading.{readParts}
+use borrow.Author.Needs.{needs}
+use Rattle.reader.proofs.parts.last_number.Statement.{statement}
+use Rattle.reader.proofs.parts.last_number.Tie as tie
+
+read-number-requires : tie.Need-read-number-requires
+read-number-requires c κs = search needs
+
+enum-known-n : tie.Need-enum-known-n
+enum-known-n c = search needs
+
+enum-told : tie.Need-enum-told
+enum-told c = search needs
+
+returns : tie.Need-returns
+unfolding readParts
+returns c =
+    rw (sym (c .before .before .read-number .ensures) ∙ c .enum-told .given .1)
+
+slice-aggregate-word-at : tie.Need-slice-aggregate-word-at
+slice-aggregate-word-at c = search needs
+
+word-at-requires : tie.Need-word-at-requires
+word-at-requires c κs = search needs
+
+enum-known-end : tie.Need-enum-known-end
+enum-known-end c = search needs
+
+enum-told-2 : tie.Need-enum-told-2
+enum-told-2 c = search needs
+
+returns-2 : tie.Need-returns-2
+unfolding readParts
+returns-2 c =
+    rw (
+      sym (c .before .before .before .before .before .before .before .read-number .ensures) ∙ c .before .before .before .before .before .n .given .1,
+      sym (c .before .before .word-at .ensures) ∙ c .enum-told2 .given .1,
+    )
+
+returns-3 : tie.Need-returns-3
+unfolding readParts
+returns-3 c =
+    rw (
+      sym (c .before .before .before .before .before .before .before .before .before .read-number .ensures) ∙ c .before .before .before .before .before .before .before .n .given .1,
+      sym (c .before .before .before .before .word-at .ensures) ∙ c .before .before .end .given .1,
+      lt-leb _ _ (c .if1 .taken),
+    )
+
+returns-4 : tie.Need-returns-4
+unfolding readParts
+returns-4 c =
+    rw (
+      sym (c .before .before .before .before .before .before .before .before .before .read-number .ensures) ∙ c .before .before .before .before .before .before .before .n .given .1,
+      sym (c .before .before .before .before .word-at .ensures) ∙ c .before .before .end .given .1,
+      le-leb _ _ (c .if1 .left),
+    )
+
+pub last-number-spec : {M : Type 1} → statement M
+last-number-spec =
+    tie.close
+    (tie.spec
+    read-number-requires
+    enum-known-n
+    enum-told
+    returns
+    slice-aggregate-word-at
+    word-at-requires
+    enum-known-end
+    enum-told-2
+    returns-2
+    returns-3
+    returns-4)

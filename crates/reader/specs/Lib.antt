@@ -1,0 +1,4 @@
+-- What the contracts of `reader` cite.
+pub mod Reading
+pub mod Parts
+pub mod Grammar

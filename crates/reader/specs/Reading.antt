@@ -1,0 +1,153 @@
+-- What the reader answers, for a line of any bytes and any length: a total function on lists. `specs/Grammar.antt` states that it accepts
+-- exactly the grammar of `specs/Forms.antt`.
+use mathlib.Core.Bool.{Bool, true, false}
+use mathlib.Core.List.{List, [], _∷_}
+use mathlib.Core.Option.{Option, none, some}
+use Prim.Native.Nat.{ℕ}
+use Prim.Native.String.{String}
+use lib.Dec.{leb}
+use lib.IntN.{ℤ}
+use lib.ListN.{length}
+use Rattle.text.specs.Words.{bytes, choose, wordAt}
+use Rattle.text.specs.declared.words.Word.{Word}
+use Rattle.text.specs.declared.words.Word.the-variants.{After, Other}
+use Rattle.numeral.specs.Reading.{numberAt, signedAt, integer}
+use Rattle.numeral.specs.declared.read.Number.{Number}
+use Rattle.numeral.specs.declared.read.Number.the-variants as N
+use Rattle.numeral.specs.declared.read.Signed.{Signed}
+use Rattle.numeral.specs.declared.read.Signed.the-variants as S
+use Rattle.command.specs.Edges.{interval}
+use Rattle.command.specs.Forms as F
+use Rattle.command.specs.Forms.{Form}
+use Rattle.command.specs.Limits.{limited, longestLine}
+use Rattle.command.specs.declared.Rule.{Rule}
+use Rattle.command.specs.declared.Rule.the-variants.{Im, Mm}
+use Rattle.command.specs.declared.Reading.{Reading}
+use Rattle.command.specs.declared.Reading.the-variants.{NoShape}
+
+-- What is read one after the other: a text, the rule's word, a numeral, a signed numeral.
+pub data Kind : Type 0 where
+  text : String → Kind
+  rule number edge : Kind
+
+-- The values that are read.
+abbrev pub Values : List Kind → Type 0
+Values [] = Unit {0}
+Values (text t ∷ ks) = Values ks
+Values (rule ∷ ks) = Rule × Values ks
+Values (number ∷ ks) = ℕ × Values ks
+Values (edge ∷ ks) = ℤ × Values ks
+
+-- A value before those that follow it.
+abbrev pub before : {A B : Type 0} → A → Option B → Option (A × B)
+before a none = none
+before a (some b) = some (a, b)
+
+-- Going on after a part, or not.
+abbrev pub afterWord : {A : Type 0} → Word → (ℕ → Option A) → Option A
+afterWord (After next) k = k next
+afterWord Other k = none
+
+abbrev pub afterRule : {A : Type 0} → Word → Word → (Rule → ℕ → Option A) → Option A
+afterRule (After next) w k = k Im next
+afterRule Other (After next) k = k Mm next
+afterRule Other Other k = none
+
+abbrev pub afterNumber : {A : Type 0} → Number → (ℕ → ℕ → Option A) → Option A
+afterNumber (N.Of n next) k = k n next
+afterNumber N.Absent k = none
+
+abbrev pub afterSigned : {A : Type 0} → Signed → (ℤ → ℕ → Option A) → Option A
+afterSigned (S.Of negative magnitude next) k = k (integer negative magnitude) next
+afterSigned S.Absent k = none
+
+-- Parts of these kinds from the place to the line's last byte, 'and no byte after its last bracket'.
+unfoldable pub readParts : (ks : List Kind) → List ℕ → ℕ → Option (Values ks)
+readParts [] line at = choose (leb (length line) at) (λ _. some tt) (λ _. none)
+readParts (text t ∷ ks) line at = afterWord (wordAt line at (bytes t)) (λ next. readParts ks line next)
+readParts (rule ∷ ks) line at =
+    afterRule (wordAt line at (bytes (F.ruleText Im))) (wordAt line at (bytes (F.ruleText Mm))) (λ r next. before r (readParts ks line next))
+readParts (number ∷ ks) line at = afterNumber (numberAt line at) (λ n next. before n (readParts ks line next))
+readParts (edge ∷ ks) line at = afterSigned (signedAt line at) (λ z next. before z (readParts ks line next))
+
+-- A shape of the grammar: the text that it begins with, what follows, and the form that it is of.
+pub record Shape : Type 0 where
+  pub word : String
+  pub kinds : List Kind
+  pub form : Values kinds → Form
+
+-- '(LOWER UPPER)' at the end of a line, and a last numeral
+abbrev pub lastEdges : List Kind
+lastEdges = text " (" ∷ edge ∷ text " " ∷ edge ∷ text "))" ∷ []
+
+abbrev pub lastNumber : List Kind
+lastNumber = number ∷ text ")" ∷ []
+
+-- the kinds of `start` and of `reply` after their words
+abbrev pub startKinds : List Kind
+startKinds = number ∷ rule ∷ number ∷ lastEdges
+
+abbrev pub replyKinds : List Kind
+replyKinds = number ∷ text " " ∷ number ∷ lastEdges
+
+abbrev pub startShape : Shape
+startShape =
+    record {
+      word = "(start ";
+      kinds = startKinds;
+      form = λ v. F.start (v .0) (v .1 .0) (v .1 .1 .0) (interval (v .1 .1 .1 .0) (v .1 .1 .1 .1 .0));
+    }
+
+abbrev pub passShape : Shape
+passShape = record { word = "(pass "; kinds = lastNumber; form = λ v. F.pass (v .0) }
+
+abbrev pub requestShape : Shape
+requestShape = record { word = "(request "; kinds = lastNumber; form = λ v. F.request (v .0) }
+
+abbrev pub replyShape : Shape
+replyShape =
+    record { word = "(reply "; kinds = replyKinds; form = λ v. F.reply (v .0) (v .1 .0) (interval (v .1 .1 .0) (v .1 .1 .1 .0)) }
+
+abbrev pub dropShape : Shape
+dropShape = record { word = "(drop "; kinds = lastNumber; form = λ v. F.drop (v .0) }
+
+abbrev pub readShape : Shape
+readShape = record { word = "(read)"; kinds = []; form = λ v. F.read }
+
+abbrev pub waitingShape : Shape
+waitingShape = record { word = "(waiting)"; kinds = []; form = λ v. F.waiting }
+
+-- The shapes, in the order in which they are tried: the commonest first.
+abbrev pub shapes : List Shape
+shapes = replyShape ∷ passShape ∷ requestShape ∷ readShape ∷ dropShape ∷ waitingShape ∷ startShape ∷ []
+
+-- The form of what was read, if it was.
+abbrev pub formed : {A : Type 0} → (A → Form) → Option A → Option Form
+formed f none = none
+formed f (some v) = some (f v)
+
+-- The form of the first shape whose text the line begins with, if the rest of the line is of that shape.
+abbrev pub byWord : Word → (ℕ → Option Form) → Option Form → Option Form
+byWord (After at) k otherwise = k at
+byWord Other k otherwise = otherwise
+
+unfoldable pub parseAs : List Shape → List ℕ → Option Form
+parseAs [] line = none
+parseAs (s ∷ ss) line =
+    byWord (wordAt line 0 (bytes (s .word))) (λ at. formed (s .form) (readParts (s .kinds) line at)) (parseAs ss line)
+
+unfoldable pub parse : List ℕ → Option Form
+parse line = parseAs shapes line
+
+-- 'line is no command shape' is refusal 1, and comes before refusal 2.
+abbrev pub judged : Option Form → Reading
+judged none = NoShape
+judged (some f) = limited f
+
+-- What a line is that begins with the shape's text, and goes on at the place.
+unfoldable pub shapedFrom : Shape → List ℕ → ℕ → Reading
+shapedFrom s line at = judged (formed (s .form) (readParts (s .kinds) line at))
+
+-- 'or over 120 bytes'
+unfoldable pub readingOf : List ℕ → Reading
+readingOf line = choose (leb (length line) longestLine) (λ _. judged (parse line)) (λ _. NoShape)

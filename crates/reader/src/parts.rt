@@ -1,0 +1,103 @@
+// The parts that end a line, and the rule's word: what several forms share.
+
+use command::Rule;
+use command::limits::Edge;
+use numeral::read::Number;
+use numeral::read::Signed;
+use numeral::read::read_number;
+use numeral::read::read_signed;
+use text::words::Word;
+use text::words::word_at;
+ghost use mathlib.Core.Path.{_≡_};
+ghost use Rattle.reader.specs.Parts.{ruleAt, edgesRead, numberRead};
+ghost use Rattle.reader.specs.Reading.{readParts, lastEdges, lastNumber};
+
+// The rule whose word stands at a place with the place after it, or none.
+pub enum RuleAt {
+    Of(Rule, usize),
+    Absent,
+}
+
+// The two edges that end a line, or that it does not end so.
+pub enum Edges {
+    Of(Edge, Edge),
+    Absent,
+}
+
+// The numeral that ends a line, or that it does not end so.
+pub enum LastNumber {
+    Of(u64),
+    Absent,
+}
+
+// ' im ' or ' mm '
+pub fn rule_at(line: &[u8], at: usize) -> RuleAt
+    ensures { λ r. ⌜ r ≡ ruleAt (now (line .entry)) at ⌝ }
+{
+    if let Word::After(next) = word_at(line, at, b" im ") {
+        return RuleAt::Of(Rule::Im, next);
+    }
+    let Word::After(next) = word_at(line, at, b" mm ") else {
+        return RuleAt::Absent;
+    };
+    RuleAt::Of(Rule::Mm, next)
+}
+
+// ' (LOWER UPPER))' and no byte after it
+pub fn last_edges(line: &[u8], at: usize) -> Edges
+    ensures { λ r. ⌜ edgesRead r ≡ readParts lastEdges (now (line .entry)) at ⌝ }
+{
+    let Word::After(first) = word_at(line, at, b" (") else {
+        return Edges::Absent;
+    };
+    let Signed::Of {
+        negative,
+        magnitude,
+        next,
+    } = read_signed(line, first)
+    else {
+        return Edges::Absent;
+    };
+    let lower = Edge {
+        negative,
+        magnitude,
+    };
+    let Word::After(second) = word_at(line, next, b" ") else {
+        return Edges::Absent;
+    };
+    let Signed::Of {
+        negative,
+        magnitude,
+        next,
+    } = read_signed(line, second)
+    else {
+        return Edges::Absent;
+    };
+    let upper = Edge {
+        negative,
+        magnitude,
+    };
+    let Word::After(end) = word_at(line, next, b"))") else {
+        return Edges::Absent;
+    };
+    if end < line.len() {
+        return Edges::Absent;
+    }
+    Edges::Of(lower, upper)
+}
+
+// 'N)' and no byte after it
+pub fn last_number(line: &[u8], at: usize) -> LastNumber
+    ensures { λ r. ⌜ numberRead r ≡ readParts lastNumber (now (line .entry)) at ⌝ }
+{
+    let Number::Of(n, next) = read_number(line, at) else {
+        return LastNumber::Absent;
+    };
+    let Word::After(end) = word_at(line, next, b")") else {
+        return LastNumber::Absent;
+    };
+    if end < line.len() {
+        return LastNumber::Absent;
+    }
+    LastNumber::Of(n)
+}
