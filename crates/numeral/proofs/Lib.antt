@@ -5,3 +5,4 @@ pub mod Numerals
 pub mod SignedNumerals
 pub mod Sign
 pub mod Writing
+pub mod RoundTrip

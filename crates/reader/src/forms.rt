@@ -102,10 +102,10 @@ pub fn read_form(line: &[u8], at: usize) -> Reading
     Reading::Accepted(Command::Read)
 }
 
-pub fn waiting_form(line: &[u8], at: usize) -> Reading
-    ensures { λ r. ⌜ r ≡ shapedFrom waitingShape (now (line .entry)) at ⌝ }
+pub fn waiting_form(line: &[u8], end: usize) -> Reading
+    ensures { λ r. ⌜ r ≡ shapedFrom waitingShape (now (line .entry)) end ⌝ }
 {
-    if at < line.len() {
+    if end < line.len() {
         return Reading::NoShape;
     }
     Reading::Accepted(Command::Waiting)

@@ -77,10 +77,10 @@ pub fn last_edges(line: &[u8], at: usize) -> Edges
         negative,
         magnitude,
     };
-    let Word::After(end) = word_at(line, next, b"))") else {
+    let Word::After(last) = word_at(line, next, b"))") else {
         return Edges::Absent;
     };
-    if end < line.len() {
+    if last < line.len() {
         return Edges::Absent;
     }
     Edges::Of(lower, upper)

@@ -86,8 +86,8 @@ slice-aggregate-word-at-3 c = search needs
 word-at-requires-3 : tie.Need-word-at-requires-3
 word-at-requires-3 c κs = search needs
 
-enum-known-end : tie.Need-enum-known-end
-enum-known-end c = search needs
+enum-known-last : tie.Need-enum-known-last
+enum-known-last c = search needs
 
 enum-told-5 : tie.Need-enum-told-5
 enum-told-5 c = search needs
@@ -111,7 +111,7 @@ returns-6 c =
       sym (c .before .before .before .before .before .before .before .before .before .before .before .before .before .before .before .before .before .before .read-signed .ensures) ∙ c .before .before .before .before .before .before .before .before .before .before .before .before .before .before .before .before .negative .given .1,
       sym (c .before .before .before .before .before .before .before .before .before .before .before .before .before .word-at2 .ensures) ∙ c .before .before .before .before .before .before .before .before .before .before .before .second .given .1,
       sym (c .before .before .before .before .before .before .before .before .before .read-signed2 .ensures) ∙ c .before .before .before .before .before .before .before .negative2 .given .1,
-      sym (c .before .before .before .before .word-at3 .ensures) ∙ c .before .before .end .given .1,
+      sym (c .before .before .before .before .word-at3 .ensures) ∙ c .before .before .last .given .1,
       lt-leb _ _ (c .if1 .taken),
     )
 
@@ -123,7 +123,7 @@ returns-7 c =
       sym (c .before .before .before .before .before .before .before .before .before .before .before .before .before .before .before .before .before .before .read-signed .ensures) ∙ c .before .before .before .before .before .before .before .before .before .before .before .before .before .before .before .before .negative .given .1,
       sym (c .before .before .before .before .before .before .before .before .before .before .before .before .before .word-at2 .ensures) ∙ c .before .before .before .before .before .before .before .before .before .before .before .second .given .1,
       sym (c .before .before .before .before .before .before .before .before .before .read-signed2 .ensures) ∙ c .before .before .before .before .before .before .before .negative2 .given .1,
-      sym (c .before .before .before .before .word-at3 .ensures) ∙ c .before .before .end .given .1,
+      sym (c .before .before .before .before .word-at3 .ensures) ∙ c .before .before .last .given .1,
       le-leb _ _ (c .if1 .left),
     )
 
@@ -151,7 +151,7 @@ last-edges-spec =
     returns-4
     slice-aggregate-word-at-3
     word-at-requires-3
-    enum-known-end
+    enum-known-last
     enum-told-5
     returns-5
     returns-6
