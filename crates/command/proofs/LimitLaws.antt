@@ -1,101 +1,108 @@
--- Laws of the limits, for the proofs of the code: what the tests on the way say of `momentOf`, `boundsOf` and `limited`.
-use mathlib.Core.Path.{_≡_, refl, sym, ap, _∙_}
-use mathlib.Core.Bool.{Bool, true, false, not, _&&_}
-use Prim.Native.Nat.{ℕ, _<_, _≤_, _^_}
+-- Laws of the limits, for the proofs of the code: what the tests on the way say of `integerOf`, `boundsOf` and `limited`.
+use mathlib.Core.Path.{_≡_, refl}
+use mathlib.Core.Bool.{Bool, true, false, _&&_, and-false}
+use Prim.Native.Nat.{ℕ, _<_, _≤_}
 use native.Mathlib.Omega.{arith}
-use borrow.Author.Tests.{leb-true}
+use borrow.Author.Tests.{le-leb, lt-leb, leb-true, leb-false}
 use lib.Dec.{leb}
 use lib.IntN.{ℤ, pos, negℤ, _-ℤ_, +ℤ-idl}
-use lib.Signed.{leZ, ltZ, _<ℤ_}
 use mir.Syntax.{w64}
 use mir.Val.{toZ, ofZ, SFits}
 use mir.Facts.{toZ-ofZ}
 use Rattle.text.specs.Words.{choose}
 use Rattle.numeral.specs.Reading.{integer}
-use Rattle.moment.specs.Moment.{inRange, earliest, latest}
+use Rattle.moment.specs.Moment.{inRange}
 use Rattle.moment.specs.declared.Interval.{Interval}
-use Rattle.moment.proofs.Integers.{ints, below, make-leZ-true, make-leZ-false}
-use Rattle.moment.proofs.Intervals.{range-read, range-before, range-after}
+use Rattle.moment.proofs.Integers.{ints, below}
+use Rattle.moment.proofs.Intervals.{range-before, range-after}
 use Rattle.command.specs.Forms.{Form}
-use Rattle.command.specs.Limits.{boardWithin, edgesWithin, keeps, commandOf, limited}
+use Rattle.command.specs.Limits.{boardWithin, claimWithin, ticksWithin, tagWithin, edgesWithin, keeps, commandOf, limited}
+use Rattle.command.specs.Edges.{edgeValue, integerOf, boundsOf}
 use Rattle.command.specs.declared.Reading.the-variants.{Accepted, OutsideLimits}
-use Rattle.command.specs.Edges.{momentOf, boundsOf}
-use Rattle.command.specs.declared.limits.Moment.{Moment}
-use Rattle.command.specs.declared.limits.Moment.the-variants as M
-use Rattle.command.specs.declared.limits.Bounds.{Bounds}
-use Rattle.command.specs.declared.limits.Bounds.the-variants as B
+use Rattle.command.specs.declared.accept.Edge.{Edge}
+use Rattle.command.specs.declared.accept.Integer.the-variants as I
+use Rattle.command.specs.declared.accept.Bounds.the-variants as B
 
--- ---- one moment
+-- ---- one number
 
-pub moment-at : (z : ℤ) → inRange z ≡ true → momentOf z ≡ M.At z
-unfolding momentOf
-moment-at z e = rw e
+pub board-bound : (n : ℕ) → boardWithin n ≡ true → n ≤ 15
+unfolding boardWithin
+board-bound n e = leb-true n 15 e
 
-pub moment-outside : (z : ℤ) → inRange z ≡ false → momentOf z ≡ M.Outside
-unfolding momentOf
-moment-outside z e = rw e
+pub claim-bound : (n : ℕ) → claimWithin n ≡ true → n ≤ 50000
+unfolding claimWithin
+claim-bound n e = leb-true n 50000 e
 
-pub at-moment : (z m : ℤ) → momentOf z ≡ M.At m → (inRange z ≡ true) × (m ≡ z)
-unfolding momentOf
-at-moment z m h = go (inRange z) refl h
+pub ticks-bound : (n : ℕ) → ticksWithin n ≡ true → n ≤ 86400000
+unfolding ticksWithin
+ticks-bound n e = leb-true n 86400000 e
+
+pub tag-bound : (n : ℕ) → tagWithin n ≡ true → n ≤ 16777215
+unfolding tagWithin
+tag-bound n e = go (leb 1 n) e
   where
-    go : (t : Bool) → inRange z ≡ t → choose t (λ _. M.At z) (λ _. M.Outside) ≡ M.At m → (inRange z ≡ true) × (m ≡ z)
-    go true e h = (e, cc)
-    go false e h = absurd (let k : _≡_ {A = ℕ} 0 1 = cc in omega arith)
+    go : (t : Bool) → (t && leb n 16777215) ≡ true → n ≤ 16777215
+    go true h = leb-true n 16777215 h
+    go false h = absurd (let k : _≡_ {A = ℕ} 0 1 = cc in omega arith)
 
-pub outside-moment : (z : ℤ) → momentOf z ≡ M.Outside → inRange z ≡ false
-unfolding momentOf
-outside-moment z h = go (inRange z) refl h
-  where
-    go : (t : Bool) → inRange z ≡ t → choose t (λ _. M.At z) (λ _. M.Outside) ≡ M.Outside → inRange z ≡ false
-    go true e h = absurd (let k : _≡_ {A = ℕ} 0 1 = cc in omega arith)
-    go false e h = e
+-- ---- an edge
 
--- a magnitude that is no i64 is outside the range, whatever its sign
-pub too-far : (negative : Bool) (m : ℕ) → 9223372036854775807 < m → inRange (integer negative m) ≡ false
-too-far true m h = range-before (negℤ (pos m)) (omega (ints, below m))
-too-far false m h = range-after (pos m) (omega ints)
+pub edge-of : (e : Edge) → e .magnitude ≤ 9223372036854775807 → integerOf e ≡ I.Of (edgeValue e)
+unfolding integerOf
+edge-of e h = rw (le-leb (e .magnitude) 9223372036854775807 h)
+
+pub edge-far : (e : Edge) → 9223372036854775807 < e .magnitude → integerOf e ≡ I.TooFar
+unfolding integerOf
+edge-far e h = rw (lt-leb (e .magnitude) 9223372036854775807 h)
 
 pub negated-is : (m : ℕ) → pos 0 -ℤ pos m ≡ negℤ (pos m)
 negated-is m = +ℤ-idl (negℤ (pos m))
 
--- a moment that was found, as the machine holds it
-pub record Found (z m : ℤ) : Type 0 where
-  pub kept : inRange z ≡ true
-  pub bare : toZ w64 (ofZ w64 m) ≡ z
+fits : (negative : Bool) (m : ℕ) → m ≤ 9223372036854775807 → SFits w64 (integer negative m)
+fits true m h = omega (ints, below m)
+fits false m h = omega ints
 
-pub found : (z m : ℤ) → momentOf z ≡ M.At m → Found z m
-found z m h =
-    let (kept, same) = at-moment z m h in
-    let (low, high) = range-read z kept in
-    let fits : SFits w64 z = omega ints in
-    record { kept = kept; bare = rw same (toZ-ofZ fits) }
+far : (negative : Bool) (m : ℕ) → 9223372036854775807 < m → inRange (integer negative m) ≡ false
+far true m h = range-before (negℤ (pos m)) (omega (ints, below m))
+far false m h = range-after (pos m) (omega ints)
 
--- the edges' order, from the test that the second is below the first
-pub crossed : (a b : ℤ) → ltZ b a ≡ true → leZ a b ≡ false
-crossed a b h = make-leZ-false a b (omega (ints, h))
+-- an integer that was found, as the machine holds it; one that was not is outside the range
+pub found-edge : (e : Edge) (z : ℤ) → integerOf e ≡ I.Of z → toZ w64 (ofZ w64 z) ≡ edgeValue e
+unfolding integerOf
+found-edge e z h = go (leb (e .magnitude) 9223372036854775807) refl h
+  where
+    go : (t : Bool) → leb (e .magnitude) 9223372036854775807 ≡ t → choose t (λ _. I.Of (edgeValue e)) (λ _. I.TooFar) ≡ I.Of z → toZ w64 (ofZ w64 z) ≡ edgeValue e
+    go true p h =
+        let same : edgeValue e ≡ z = cc in
+        rw (← same) (toZ-ofZ (fits (e .negative) (e .magnitude) (leb-true (e .magnitude) 9223372036854775807 p)))
+    go false p h = absurd (let k : _≡_ {A = ℕ} 0 1 = cc in omega arith)
 
-pub ordered : (a b : ℤ) → ltZ b a ≡ false → leZ a b ≡ true
-ordered a b h = make-leZ-true a b (omega (ints, h))
+pub far-edge : (e : Edge) → integerOf e ≡ I.TooFar → inRange (edgeValue e) ≡ false
+unfolding integerOf
+far-edge e h = go (leb (e .magnitude) 9223372036854775807) refl h
+  where
+    go : (t : Bool) → leb (e .magnitude) 9223372036854775807 ≡ t → choose t (λ _. I.Of (edgeValue e)) (λ _. I.TooFar) ≡ I.TooFar → inRange (edgeValue e) ≡ false
+    go true p h = absurd (let k : _≡_ {A = ℕ} 0 1 = cc in omega arith)
+    go false p h = far (e .negative) (e .magnitude) (leb-false (e .magnitude) 9223372036854775807 p)
 
--- ---- two of them
+-- ---- two edges
 
 module _ (i : Interval) where
   pub bounds-first : inRange (i .lower) ≡ false → boundsOf i ≡ B.Outside
   unfolding boundsOf edgesWithin
   bounds-first e = rw e
 
-  pub bounds-second : inRange (i .lower) ≡ true → inRange (i .upper) ≡ false → boundsOf i ≡ B.Outside
+  pub bounds-second : inRange (i .upper) ≡ false → boundsOf i ≡ B.Outside
   unfolding boundsOf edgesWithin
-  bounds-second d e = rw (d, e)
+  bounds-second e = rw (e, and-false (inRange (i .lower)))
 
-  pub bounds-crossed : inRange (i .lower) ≡ true → inRange (i .upper) ≡ true → leZ (i .lower) (i .upper) ≡ false → boundsOf i ≡ B.Outside
-  unfolding boundsOf edgesWithin
-  bounds-crossed d e f = rw (d, e, f)
+  pub bounds-kept : edgesWithin i ≡ true → boundsOf i ≡ B.Within i
+  unfolding boundsOf
+  bounds-kept e = rw e
 
-  pub bounds-kept : inRange (i .lower) ≡ true → inRange (i .upper) ≡ true → leZ (i .lower) (i .upper) ≡ true → boundsOf i ≡ B.Within i
-  unfolding boundsOf edgesWithin
-  bounds-kept d e f = rw (d, e, f)
+  pub bounds-broken : edgesWithin i ≡ false → boundsOf i ≡ B.Outside
+  unfolding boundsOf
+  bounds-broken e = rw e
 
   pub kept-bounds : (j : Interval) → boundsOf i ≡ B.Within j → (edgesWithin i ≡ true) × (j ≡ i)
   unfolding boundsOf
@@ -122,9 +129,3 @@ limited-keeps f e = rw e
 pub limited-breaks : (f : Form) → keeps f ≡ false → limited f ≡ OutsideLimits
 unfolding limited
 limited-breaks f e = rw e
-
--- ---- a board number
-
-pub board-bound : (n : ℕ) → boardWithin n ≡ true → n ≤ 15
-unfolding boardWithin
-board-bound n e = leb-true n 15 e

@@ -1,5 +1,5 @@
 -- The limits of the numbers in a form, and the command that a form within them is: document 01, 'Line forms' and 'Moments and ticks'.
-use mathlib.Core.Bool.{Bool, true, false, _&&_}
+use mathlib.Core.Bool.{Bool, true, _&&_}
 use Prim.Native.Nat.{ℕ}
 use lib.Dec.{leb}
 use lib.Signed.{leZ}
@@ -12,10 +12,6 @@ use Rattle.command.specs.declared.Command.{Command}
 use Rattle.command.specs.declared.Command.the-variants as C
 use Rattle.command.specs.declared.Reading.{Reading}
 use Rattle.command.specs.declared.Reading.the-variants.{Accepted, NoShape, OutsideLimits}
-
--- 'A line is at most 120 bytes, without its LF.'
-abbrev pub longestLine : ℕ
-longestLine = 120
 
 -- 'its board number 0..15', 'a peer, 0..15'
 unfoldable pub boardWithin : ℕ → Bool

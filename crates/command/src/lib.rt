@@ -1,6 +1,7 @@
 // Commands and their limits: document 01, 'Line forms'.
 use moment::Interval;
 
+pub mod accept;
 pub mod limits;
 
 // 'RULE is `im` or `mm`'
@@ -9,7 +10,7 @@ pub enum Rule {
     Mm,
 }
 
-// A command: a form whose numbers are within their limits. Of a reply's edges the lower is TRAILING and the upper LEADING.
+// A command. The reader answers only those whose numbers are within their limits. Of a reply's edges the lower is TRAILING and the upper LEADING.
 pub enum Command {
     Start {
         board: u8,

@@ -1,8 +1,7 @@
 -- Moments, ticks and intervals of document 01, in the order of its section 'Moments and ticks'. A moment is an integer (ℤ): a whole
 -- number of nanoseconds from the epoch. What the code holds as an i64 is such an integer here.
-use mathlib.Core.Path.{_≡_}
 use mathlib.Core.Bool.{Bool, true, false, _&&_}
-use Prim.Native.Nat.{ℕ, _+_, _-_, _*_, _/_}
+use Prim.Native.Nat.{ℕ, _+_, _-_, _/_}
 use lib.IntN.{ℤ, pos, negsuc, _+ℤ_}
 use lib.Signed.{leZ, _≤ℤ_}
 use Rattle.moment.specs.declared.Interval.{Interval}
@@ -26,20 +25,20 @@ shortest claim = 1000000 - claim
 abbrev pub longest : ℕ → ℕ
 longest claim = 1000000 + claim
 
--- The edge `by` nanoseconds on (back, if `by` is negative), or that it would leave the range.
 pickMoved : Bool → ℤ → Moved
 pickMoved true m = To m
 pickMoved false m = Outside
 
+-- The edge `by` nanoseconds on (back, if `by` is negative), or that it would leave the range.
 unfoldable pub movedBy : ℤ → ℤ → Moved
 unfolding pickMoved
 movedBy edge by = pickMoved (inRange (edge +ℤ by)) (edge +ℤ by)
 
--- The larger and the smaller of two moments.
 pickZ : Bool → ℤ → ℤ → ℤ
 pickZ true a b = a
 pickZ false a b = b
 
+-- The larger and the smaller of two moments.
 unfoldable pub largerOf : ℤ → ℤ → ℤ
 unfolding pickZ
 largerOf a b = pickZ (leZ a b) b a

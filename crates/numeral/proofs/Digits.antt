@@ -8,7 +8,6 @@ use native.Mathlib.Omega.{arith}
 use borrow.Author.Tests.{lt-ltb, le-ltb, ltb-true, ltb-false}
 use lib.Dec.{ltb}
 use lib.ListN.{length, length-append}
-use Rattle.text.specs.Words.{choose}
 use Rattle.numeral.specs.Digits.{digitsIn, digits}
 
 -- a number below 10 is one digit, whatever the bound

@@ -1,21 +1,20 @@
 -- Numerals and their readers. A numeral is what the sentence of document 01 describes (`described`); where one stands and its digits do not
 -- go on, it is read as its number (`numeral-read`); and what is read is a numeral of that number (`read-numeral`).
 use mathlib.Core.Path.{_≡_, refl, sym, ap, _∙_, subst}
-use mathlib.Core.Bool.{Bool, true, false, not}
+use mathlib.Core.Bool.{Bool, true, false}
 use mathlib.Core.Logic.{_↔_}
 use mathlib.Core.List.{List, [], _∷_, _++_, append-assoc, append-nil}
-use Prim.Native.Nat.{ℕ, zero, suc, _+_, _-_, _*_, _/_, _%_, _^_, _<_, _≤_}
+use Prim.Native.Nat.{ℕ, zero, suc, _+_, _-_, _*_, _/_, _%_, _<_, _≤_}
 use native.Mathlib.Nat.{lt-of-not-le}
 use native.Mathlib.Omega.{arith}
 use borrow.Author.Tests.{ltb-true, ltb-false, leb-true, leb-false, not-true}
-use lib.Dec.{leb, ltb, eqb}
-use lib.ListN.{length, drop, getD, length-append, List·getD-append}
-use lib.Seq.{drop-drop, drop-at}
+use lib.Dec.{leb, ltb}
+use lib.ListN.{length, drop, getD, List·getD-append}
+use lib.Seq.{drop-drop}
 use Rattle.text.specs.Words.{choose, Stands}
 use Rattle.numeral.specs.Digits.{digits}
 use Rattle.numeral.specs.Numerals.{Numeral, AllDigits, none, more, Described}
-use Rattle.numeral.specs.Reading.{isDigit, noDigit, run, valueFrom, wellFormed, numberIn, numberAt}
-use Rattle.numeral.specs.declared.read.Number.{Number}
+use Rattle.numeral.specs.Reading.{isDigit, numeralEnds, run, valueFrom, wellFormed, numberIn, numberAt}
 use Rattle.numeral.specs.declared.read.Number.the-variants as N
 use Rattle.numeral.proofs.Digits.{digits-one, digits-more, digits-some}
 use Rattle.numeral.proofs.Reading.{is-digit, digit-bounds, formed-one, formed-more, formed-not-empty, formed-not-long, formed-not-zero}
@@ -140,11 +139,11 @@ described s = (to, from)
 -- ---- what the reader answers
 
 -- the run of digits that do not go on is all of them
-pub run-all : {s : List ℕ} → AllDigits s → (rest : List ℕ) → noDigit rest ≡ true → run (s ++ rest) ≡ s
-unfolding run noDigit
+pub run-all : {s : List ℕ} → AllDigits s → (rest : List ℕ) → numeralEnds rest ≡ true → run (s ++ rest) ≡ s
+unfolding run numeralEnds
 run-all none rest e = ends rest e
   where
-    ends : (rest : List ℕ) → noDigit rest ≡ true → run rest ≡ []
+    ends : (rest : List ℕ) → numeralEnds rest ≡ true → run rest ≡ []
     ends [] e = refl
     ends (b ∷ rest) e = rw (not-true (isDigit b) e)
 run-all (more {b = b} {s = s} low high r) rest e = rw (is-digit b low high) (ap (λ (x : List ℕ). b ∷ x) (run-all r rest e))
@@ -198,7 +197,7 @@ described-formed r d = by-test (leb (length r) 1) refl
 
 -- a numeral that stands at a place, and whose digits do not go on, is read as its number
 pub numeral-read : (line : List ℕ) (at n : ℕ) (s rest : List ℕ)
-    → Numeral n s → drop at line ≡ s ++ rest → noDigit rest ≡ true → numberAt line at ≡ N.Of n (at + length s)
+    → Numeral n s → drop at line ≡ s ++ rest → numeralEnds rest ≡ true → numberAt line at ≡ N.Of n (at + length s)
 unfolding numberAt numberIn
 numeral-read line at n s rest m e f =
     let d : Described s = described s .1 (n, m) in
@@ -225,3 +224,27 @@ read-numeral line at n next e = go (wellFormed r) refl e
           here = run-front (drop at line) ∙ ap (λ (x : List ℕ). r ++ x) (drop-drop (length r) at line ∙ ap (λ (k : ℕ). drop k line) place);
           after = sym place;
         }
+
+-- a run of digits does not go on
+run-ends : (s : List ℕ) → numeralEnds (drop (length (run s)) s) ≡ true
+unfolding run numeralEnds
+run-ends [] = refl
+run-ends (b ∷ s) = go (isDigit b) refl (run-ends s)
+  where
+    go : (t : Bool) → isDigit b ≡ t → numeralEnds (drop (length (run s)) s) ≡ true → numeralEnds (drop (length (choose t (λ _. b ∷ run s) (λ _. []))) (b ∷ s)) ≡ true
+    go true e r = r
+    go false e r = rw e
+
+-- after a numeral that is read no digit stands
+pub read-ends : (line : List ℕ) (at n next : ℕ) → numberAt line at ≡ N.Of n next → numeralEnds (drop next line) ≡ true
+unfolding numberAt numberIn
+read-ends line at n next e = go (wellFormed r) refl e
+  where
+    r : List ℕ
+    r = run (drop at line)
+
+    go : (t : Bool) → wellFormed r ≡ t → choose t (λ _. N.Of (valueFrom 0 r) (at + length r)) (λ _. N.Absent) ≡ N.Of n next → numeralEnds (drop next line) ≡ true
+    go false w h = absurd (let k : _≡_ {A = ℕ} 0 1 = cc in omega arith)
+    go true w h =
+        let place : at + length r ≡ next = cc in
+        rw (← place, ← drop-drop (length r) at line) (run-ends (drop at line))

@@ -1,19 +1,19 @@
--- Reading and writing against each other, for every number: what is written is read back as the same number, and what is read, written again
--- at its place, leaves the line as it was.
+-- Reading and writing against each other: every number of at most 19 digits, written, is read back as the same number (a larger one has no
+-- numeral), and every number that is read, written again at its place, leaves the line as it was.
 use mathlib.Core.Path.{_≡_, refl, sym, ap, _∙_}
 use mathlib.Core.Bool.{Bool, true}
-use mathlib.Core.List.{List, [], _∷_, _++_, append-assoc}
+use mathlib.Core.List.{List, _∷_, _++_, append-assoc}
 use Prim.Native.Nat.{ℕ, suc, _+_, _-_, _≤_, _<_, _^_}
 use native.Mathlib.Omega.{arith}
 use lib.IntN.{ℤ, pos, negsuc, natAbs}
 use lib.ListN.{length, take, drop, length-append, length-drop, take-append-drop}
-use lib.Seq.{length-take-le, drop-at, drop-drop}
+use lib.Seq.{length-take-le, drop-at}
 use Rattle.text.specs.Words.{Stands}
 use Rattle.text.specs.Output.{Put}
 use Rattle.text.proofs.OutputLaws.{put-room, room-put, put-same}
 use Rattle.numeral.specs.Digits.{digits, signedDigits}
 use Rattle.numeral.specs.Numerals.{Numeral, SignedNumeral}
-use Rattle.numeral.specs.Reading.{noDigit, numberAt, signedAt, negative, integer}
+use Rattle.numeral.specs.Reading.{numeralEnds, numberAt, signedAt, negative, integer}
 use Rattle.numeral.specs.declared.read.Number.the-variants as N
 use Rattle.numeral.specs.declared.read.Signed.the-variants as S
 use Rattle.numeral.proofs.Digits.{digits-some, digits-most}
@@ -43,13 +43,13 @@ put-here {b} {s} {a} {at} {next} room p =
 
 -- what is written is read back, if no digit follows it
 pub written-read : {b a : List ℕ} {at next : ℕ} (n : ℕ) → n < 10 ^ 19 → at + length (digits n) ≤ length b → Put b at (digits n) a next
-    → noDigit (drop next a) ≡ true → numberAt a at ≡ N.Of n next
+    → numeralEnds (drop next a) ≡ true → numberAt a at ≡ N.Of n next
 written-read {b} {a} {at} {next} n small room p ends =
     numeral-read a at n (digits n) (drop next a) (digits-numeral n small) (put-here {at = at} room p) ends
     ∙ ap (N.Of n) (sym (put-room {at = at} room p .1))
 
 pub signed-written-read : {b a : List ℕ} {at next : ℕ} (z : ℤ) → natAbs z < 10 ^ 19 → at + length (signedDigits z) ≤ length b → Put b at (signedDigits z) a next
-    → noDigit (drop next a) ≡ true → signedAt a at ≡ S.Of (negative z) (natAbs z) next
+    → numeralEnds (drop next a) ≡ true → signedAt a at ≡ S.Of (negative z) (natAbs z) next
 signed-written-read {b} {a} {at} {next} z small room p ends =
     signed-read a at z (signedDigits z) (drop next a) (signed-numeral z small) (put-here {at = at} room p) ends
     ∙ ap (S.Of (negative z) (natAbs z)) (sym (put-room {at = at} room p .1))

@@ -3,22 +3,20 @@
 use mathlib.Core.Path.{_≡_, refl, sym, ap, _∙_, subst}
 use mathlib.Core.Bool.{Bool, true, false}
 use mathlib.Core.List.{List, [], _∷_, _++_}
-use Prim.Native.Nat.{ℕ, zero, suc, _+_, _<_, _≤_}
+use Prim.Native.Nat.{ℕ, zero, suc, _+_, _≤_}
 use native.Mathlib.Omega.{arith}
-use borrow.Author.Tests.{ne-eqb, eq-eqb, eqb-true, eqb-false}
-use lib.Dec.{eqb}
+use borrow.Author.Tests.{ne-eqb}
 use lib.IntN.{ℤ, pos, negsuc, natAbs}
 use lib.ListN.{length, drop}
 use lib.Seq.{drop-drop}
-use Rattle.text.specs.Words.{choose, startsWith, wordAt, Stands}
+use Rattle.text.specs.Words.{startsWith, wordAt, Stands}
 use Rattle.text.specs.declared.words.Word.{Word}
 use Rattle.text.specs.declared.words.Word.the-variants.{After, Other}
 use Rattle.text.proofs.WordLaws.{word-found, word-other, found-word}
-use Rattle.numeral.specs.Numerals.{Numeral, SignedNumeral, AllDigits, none, more, Described}
-use Rattle.numeral.specs.Reading.{noDigit, numberAt, plain, negated, signedFrom, signedAt, integer, negative}
+use Rattle.numeral.specs.Numerals.{Numeral, SignedNumeral, AllDigits, more, Described}
+use Rattle.numeral.specs.Reading.{numeralEnds, numberAt, plain, negated, signedFrom, signedAt, integer, negative}
 use Rattle.numeral.specs.declared.read.Number.{Number}
 use Rattle.numeral.specs.declared.read.Number.the-variants as N
-use Rattle.numeral.specs.declared.read.Signed.{Signed}
 use Rattle.numeral.specs.declared.read.Signed.the-variants as S
 use Rattle.numeral.proofs.Numerals.{described, numeral-read, read-numeral}
 
@@ -34,7 +32,7 @@ no-minus [] rest a h = absurd (omega arith)
 no-minus (b ∷ s) rest (more low high r) h = rw (ne-eqb 45 b (λ e. omega arith))
 
 pub signed-read : (line : List ℕ) (at : ℕ) (z : ℤ) (s rest : List ℕ)
-    → SignedNumeral z s → drop at line ≡ s ++ rest → noDigit rest ≡ true → signedAt line at ≡ S.Of (negative z) (natAbs z) (at + length s)
+    → SignedNumeral z s → drop at line ≡ s ++ rest → numeralEnds rest ≡ true → signedAt line at ≡ S.Of (negative z) (natAbs z) (at + length s)
 unfolding signedAt signedFrom plain negated
 signed-read line at (pos n) s rest m e f =
     let d : Described s = described s .1 (n, m) in

@@ -1,8 +1,8 @@
 -- What the readers of numerals answer, for any bytes and any place. `proofs/Numerals.antt` proves that a numeral is answered exactly
--- where one begins whose digits do not go on.
+-- where one begins whose digits do not go on: `numeral-read`, `read-numeral` and `read-ends`.
 use mathlib.Core.Bool.{Bool, true, false, not, _&&_, _||_}
 use mathlib.Core.List.{List, [], _∷_}
-use Prim.Native.Nat.{ℕ, zero, suc, _+_, _-_, _*_}
+use Prim.Native.Nat.{ℕ, _+_, _-_, _*_}
 use lib.Dec.{leb, eqb}
 use lib.ListN.{length, drop}
 use lib.IntN.{ℤ, pos, negsuc, negℤ}
@@ -17,13 +17,16 @@ use Rattle.numeral.specs.declared.read.Signed.{Signed}
 use Rattle.numeral.specs.declared.read.Signed.the-variants as S
 
 -- The byte is a digit, '0' (48) to '9' (57).
-unfoldable pub isDigit : ℕ → Bool
+abbrev pub isDigit : ℕ → Bool
 isDigit b = leb 48 b && leb b 57
 
--- The bytes begin with no digit: they are none, or the first is another byte.
-unfoldable pub noDigit : List ℕ → Bool
-noDigit [] = true
-noDigit (b ∷ s) = not (isDigit b)
+-- The byte goes on with a numeral that stands before it; the bytes do not go on with it: they are none, or the first is another byte.
+abbrev pub goesOn : ℕ → Bool
+goesOn b = isDigit b
+
+abbrev pub numeralEnds : List ℕ → Bool
+numeralEnds [] = true
+numeralEnds (b ∷ s) = not (goesOn b)
 
 -- The digit that the bytes begin with.
 unfoldable pub digitIn : List ℕ → Digit

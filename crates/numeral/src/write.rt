@@ -42,7 +42,7 @@ fn magnitude(z: i64) -> u64
     }
 }
 
-// The same of a signed number: its magnitude, and one '-' before it if it is negative.
+// Puts the spelling of a signed number: its magnitude, and one '-' before it if it is negative.
 pub fn put_signed(out: &mut [u8], at: usize, z: i64) -> usize
     ensures { λ r. ⌜ Put (now (out .entry)) at (signedDigits z) (now (out .exit)) r ⌝ }
 {

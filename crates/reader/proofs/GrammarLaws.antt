@@ -3,20 +3,19 @@ use mathlib.Core.Path.{_≡_, refl, sym, ap, _∙_, subst}
 use mathlib.Core.Bool.{Bool, true, false, not, _&&_, _||_}
 use mathlib.Core.List.{List, [], _∷_, _++_}
 use mathlib.Core.Option.{Option, none, some}
-use Prim.Native.Nat.{ℕ, zero, suc, _+_, _≤_, _<_}
+use Prim.Native.Nat.{ℕ, zero, suc, _+_, _≤_}
 use native.Mathlib.Omega.{arith}
-use borrow.Author.Tests.{le-leb, lt-leb, leb-true, leb-false, ne-eqb, eqb-false}
+use borrow.Author.Tests.{le-leb, leb-true, leb-false}
 use lib.Dec.{leb, eqb}
 use lib.ListN.{length, drop}
-use Rattle.text.specs.Words.{bytes, choose, wordAt, startsWith}
+use Rattle.text.specs.Words.{bytes, wordAt, startsWith}
 use Rattle.text.specs.declared.words.Word.{Word}
 use Rattle.text.specs.declared.words.Word.the-variants.{After, Other}
 use Rattle.text.proofs.WordLaws.{word-found, word-other, found-word}
-use Rattle.numeral.specs.Reading.{isDigit}
 use Rattle.command.specs.Forms as F
-use Rattle.command.specs.Forms.{Form, Part, Spells, parts, IsSpelling}
-use Rattle.command.specs.Limits.{keeps, commandOf, formOf, limited, longestLine}
-use Rattle.reader.specs.Reading.{Kind, Values, Shape, startShape, passShape, requestShape, replyShape, dropShape, readShape, waitingShape, shapes, readParts, formed, byWord, parseAs, parse, judged, shapedFrom, readingOf}
+use Rattle.command.specs.Forms.{Form, Spells, parts, IsSpelling}
+use Rattle.command.specs.Limits.{keeps, commandOf, formOf, numberOf, limited}
+use Rattle.reader.specs.Reading.{Values, Shape, startShape, passShape, requestShape, replyShape, dropShape, readShape, waitingShape, shapes, readParts, formed, byWord, parseAs, parse, judged, shapedFrom, longestLine, readingOf}
 use Rattle.reader.specs.Grammar.{Shaped, ReadsTheGrammar}
 use Rattle.command.specs.declared.Command.{Command}
 use Rattle.command.specs.declared.Command.the-variants as C
@@ -112,7 +111,6 @@ find-shape n s ss line v d u a (t, rest, p, f, h) =
     skip n shapes line (bytes (s .word)) rest here u ∙ ap (λ (x : List Shape). parseAs x line) d ∙ take-shape s ss line v a (t, rest, p, f, h)
 
 pub parse-complete : (f : Form) (line : List ℕ) → IsSpelling f line → parse line ≡ some f
-unfolding isDigit
 parse-complete (F.reply peer tag edges) line h =
     find-shape 0 replyShape _ line (peer, (tag, (edges .lower, (edges .upper, tt)))) refl refl refl h
 parse-complete (F.pass ticks) line h = find-shape 1 passShape _ line (ticks, tt) refl refl refl h
@@ -223,12 +221,23 @@ no-form : (line : List ℕ) → Answer line → ((f : Form) → Shaped f line �
 no-form line (of f s e) h = absurd (h f s)
 no-form line (no-shape e n) h = e
 
+-- the answer of each number
+two : (r : Reading) → numberOf r ≡ 2 → r ≡ OutsideLimits
+two (Accepted c) e = absurd (omega arith)
+two NoShape e = absurd (omega arith)
+two OutsideLimits e = refl
+
+one : (r : Reading) → numberOf r ≡ 1 → r ≡ NoShape
+one (Accepted c) e = absurd (omega arith)
+one NoShape e = refl
+one OutsideLimits e = absurd (omega arith)
+
 pub reads-the-grammar : (line : List ℕ) → ReadsTheGrammar line
 reads-the-grammar line =
     record {
       command = λ c.
           (accepted line c (answer line), λ h. shaped-reading (formOf c) line (h .0) ∙ limited-keeps (formOf c) (h .1) ∙ ap Accepted (form-command c));
-      outside = (refused-2 line (answer line), λ h. shaped-reading (h .0) line (h .1) ∙ limited-breaks (h .0) (h .2));
-      shapeless = (refused-1 line, no-form line (answer line));
+      outside = (λ e. refused-2 line (answer line) (two (readingOf line) e), λ h. ap numberOf (shaped-reading (h .0) line (h .1) ∙ limited-breaks (h .0) (h .2)));
+      shapeless = (λ e. refused-1 line (one (readingOf line) e), λ h. ap numberOf (no-form line (answer line) h));
       one = one-form line;
     }

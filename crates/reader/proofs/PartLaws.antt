@@ -4,20 +4,17 @@ use mathlib.Core.Path.{_≡_, refl, sym, ap, _∙_, subst}
 use mathlib.Core.Bool.{Bool, true, false, not, _&&_}
 use mathlib.Core.List.{List, [], _∷_, _++_}
 use mathlib.Core.Option.{Option, none, some}
-use Prim.Native.Nat.{ℕ, zero, suc, _+_, _-_, _≤_, _<_}
-use Prim.Native.String.{String}
+use Prim.Native.Nat.{ℕ, _+_, _≤_, _<_}
 use native.Mathlib.Omega.{arith}
-use borrow.Author.Tests.{le-leb, leb-true}
+use borrow.Author.Tests.{le-leb, lt-leb, leb-true}
 use lib.Dec.{leb}
-use lib.IntN.{ℤ, natAbs}
 use lib.ListN.{length, drop, length-drop, drop-of-length-le}
 use lib.Seq.{drop-drop, drop-at}
-use Rattle.text.specs.Words.{bytes, choose, wordAt, startsWith, Stands}
+use Rattle.text.specs.Words.{bytes, choose, wordAt, startsWith}
 use Rattle.text.specs.declared.words.Word.{Word}
 use Rattle.text.specs.declared.words.Word.the-variants.{After, Other}
 use Rattle.text.proofs.WordLaws.{word-found, word-other, found-word}
-use Rattle.numeral.specs.Numerals.{Numeral, SignedNumeral}
-use Rattle.numeral.specs.Reading.{isDigit, noDigit, numberAt, signedAt, integer, negative}
+use Rattle.numeral.specs.Reading.{goesOn, numeralEnds, numberAt, signedAt, integer}
 use Rattle.numeral.specs.declared.read.Number.{Number}
 use Rattle.numeral.specs.declared.read.Number.the-variants as N
 use Rattle.numeral.specs.declared.read.Signed.{Signed}
@@ -25,10 +22,11 @@ use Rattle.numeral.specs.declared.read.Signed.the-variants as S
 use Rattle.numeral.proofs.Numerals.{numeral-read, read-numeral}
 use Rattle.numeral.proofs.SignedNumerals.{signed-read, read-signed, integer-is}
 use Rattle.command.specs.Forms as F
-use Rattle.command.specs.Forms.{Part, IsPart, Spells, ruleText}
-use Rattle.reader.specs.Reading.{Kind, text, rule, number, edge, Values, before, afterWord, afterRule, afterNumber, afterSigned, readParts}
-use Rattle.reader.specs.Parts.{ruleFrom, ruleAt}
+use Rattle.command.specs.Forms.{Part, Spells, ruleText}
+use Rattle.reader.specs.Reading.{Kind, text, rule, number, edge, Values, before, ruleFrom, ruleAt, endAt, afterWord, afterRule, atEnd, afterNumber, afterSigned, readParts}
+use Rattle.reader.specs.declared.parts.RuleAt.{RuleAt}
 use Rattle.reader.specs.declared.parts.RuleAt.the-variants as R
+use Rattle.reader.specs.declared.parts.End.the-variants as E
 use Rattle.command.specs.declared.Rule.{Rule}
 use Rattle.command.specs.declared.Rule.the-variants.{Im, Mm}
 
@@ -42,9 +40,39 @@ partsOf (edge ∷ ks) v = F.edge (v .0) ∷ partsOf ks (v .1)
 
 -- ---- what is read is a spelling
 
-sound-end : (line : List ℕ) (at : ℕ) (t : Bool) → leb (length line) at ≡ t → choose t (λ _. some tt) (λ _. none) ≡ some (tt {0}) → drop at line ≡ []
-sound-end line at true e h = drop-of-length-le line (leb-true (length line) at e)
-sound-end line at false e h = absurd (let k : _≡_ {A = ℕ} 0 1 = cc in omega arith)
+-- the line's end
+pub end-here : (line : List ℕ) (at : ℕ) → length line ≤ at → endAt line at ≡ E.Here
+unfolding endAt
+end-here line at h = rw (le-leb (length line) at h)
+
+pub end-later : (line : List ℕ) (at : ℕ) → at < length line → endAt line at ≡ E.Later
+unfolding endAt
+end-later line at h = rw (lt-leb (length line) at h)
+
+sound-end : (line : List ℕ) (at : ℕ) (v : Unit {0}) → atEnd (endAt line at) tt ≡ some v → drop at line ≡ []
+unfolding endAt
+sound-end line at v e = go (leb (length line) at) refl e
+  where
+    go : (t : Bool) → leb (length line) at ≡ t → atEnd (choose t (λ _. E.Here) (λ _. E.Later)) tt ≡ some v → drop at line ≡ []
+    go true p h = drop-of-length-le line (leb-true (length line) at p)
+    go false p h = absurd (let k : _≡_ {A = ℕ} 0 1 = cc in omega arith)
+
+-- the rule whose word was found stands there
+rule-stands : (line : List ℕ) (at : ℕ) (r : Rule) (next : ℕ) → ruleAt line at ≡ R.Of r next → drop at line ≡ bytes (ruleText r) ++ drop next line
+unfolding ruleAt
+rule-stands line at r next e = go (wordAt line at (bytes (ruleText Im))) (wordAt line at (bytes (ruleText Mm))) refl refl e
+  where
+    this : (q : Rule) (n : ℕ) → wordAt line at (bytes (ruleText q)) ≡ After n → R.Of q n ≡ R.Of r next → drop at line ≡ bytes (ruleText r) ++ drop next line
+    this q n p h =
+        let same : q ≡ r = cc in
+        let place : n ≡ next = cc in
+        rw (← same, ← place) (found-word line at (bytes (ruleText q)) n p .1)
+
+    go : (im mm : Word) → wordAt line at (bytes (ruleText Im)) ≡ im → wordAt line at (bytes (ruleText Mm)) ≡ mm → ruleFrom im mm ≡ R.Of r next
+        → drop at line ≡ bytes (ruleText r) ++ drop next line
+    go (After n) mm p q h = this Im n p h
+    go Other (After n) p q h = this Mm n q h
+    go Other Other p q h = absurd (let k : _≡_ {A = ℕ} 0 1 = cc in omega arith)
 
 -- the values after the first one, and what holds of all of them if it holds of those
 sound-before : {A B : Type 0} (P : A × B → Type 0) (a : A) (o : Option B) (v : A × B) → before a o ≡ some v → ((b : B) → o ≡ some b → P (a, b)) → P v
@@ -55,28 +83,21 @@ sound-before P a (some b) v h k =
 
 pub sound : (ks : List Kind) (line : List ℕ) (at : ℕ) (v : Values ks) → readParts ks line at ≡ some v → Spells (partsOf ks v) (drop at line)
 unfolding readParts
-sound [] line at v e = sound-end line at (leb (length line) at) refl e
+sound [] line at v e = sound-end line at v e
 sound (text t ∷ ks) line at v e = go (wordAt line at (bytes t)) refl e (λ next h. sound ks line next v h)
   where
     go : (w : Word) → wordAt line at (bytes t) ≡ w → afterWord w (λ next. readParts ks line next) ≡ some v
         → ((next : ℕ) → readParts ks line next ≡ some v → Spells (partsOf ks v) (drop next line)) → Spells (partsOf (text t ∷ ks) v) (drop at line)
     go (After next) p h ih = (bytes t, drop next line, refl, found-word line at (bytes t) next p .1, ih next h)
     go Other p h ih = absurd (let k : _≡_ {A = ℕ} 0 1 = cc in omega arith)
-sound (rule ∷ ks) line at v e =
-    go (wordAt line at (bytes (ruleText Im))) (wordAt line at (bytes (ruleText Mm))) refl refl e (λ next w h. sound ks line next w h)
+sound (rule ∷ ks) line at v e = go (ruleAt line at) refl e (λ next w h. sound ks line next w h)
   where
-    one : (r : Rule) (next : ℕ) → wordAt line at (bytes (ruleText r)) ≡ After next → before r (readParts ks line next) ≡ some v
+    go : (o : RuleAt) → ruleAt line at ≡ o → afterRule o (λ r next. before r (readParts ks line next)) ≡ some v
         → ((next : ℕ) (w : Values ks) → readParts ks line next ≡ some w → Spells (partsOf ks w) (drop next line)) → Spells (partsOf (rule ∷ ks) v) (drop at line)
-    one r next p h ih =
+    go R.Absent p h ih = absurd (let k : _≡_ {A = ℕ} 0 1 = cc in omega arith)
+    go (R.Of r next) p h ih =
         sound-before (λ w. Spells (partsOf (rule ∷ ks) w) (drop at line)) r (readParts ks line next) v h
-        (λ w q. (bytes (ruleText r), drop next line, refl, found-word line at (bytes (ruleText r)) next p .1, ih next w q))
-
-    go : (im mm : Word) → wordAt line at (bytes (ruleText Im)) ≡ im → wordAt line at (bytes (ruleText Mm)) ≡ mm
-        → afterRule im mm (λ r next. before r (readParts ks line next)) ≡ some v
-        → ((next : ℕ) (w : Values ks) → readParts ks line next ≡ some w → Spells (partsOf ks w) (drop next line)) → Spells (partsOf (rule ∷ ks) v) (drop at line)
-    go (After next) mm p q h ih = one Im next p h ih
-    go Other (After next) p q h ih = one Mm next q h ih
-    go Other Other p q h ih = absurd (let k : _≡_ {A = ℕ} 0 1 = cc in omega arith)
+        (λ w q. (bytes (ruleText r), drop next line, refl, rule-stands line at r next p, ih next w q))
 sound (number ∷ ks) line at v e =
     go (numberAt line at) refl e (λ next w h. sound ks line next w h)
   where
@@ -102,7 +123,7 @@ sound (edge ∷ ks) line at v e = go (signedAt line at) refl e (λ next w h. sou
 -- the bytes begin with a byte that is no digit
 abbrev opens : List ℕ → Bool
 opens [] = false
-opens (b ∷ s) = not (isDigit b)
+opens (b ∷ s) = not (goesOn b)
 
 -- what begins a spelling of these kinds is no digit, or nothing is left
 abbrev follows : List Kind → Bool
@@ -120,18 +141,16 @@ apart (rule ∷ ks) = apart ks
 apart (number ∷ ks) = follows ks && apart ks
 apart (edge ∷ ks) = follows ks && apart ks
 
-opened : (s rest : List ℕ) → opens s ≡ true → noDigit (s ++ rest) ≡ true
-unfolding noDigit
+opened : (s rest : List ℕ) → opens s ≡ true → numeralEnds (s ++ rest) ≡ true
 opened [] rest e = absurd (let k : _≡_ {A = ℕ} 0 1 = cc in omega arith)
 opened (b ∷ s) rest e = e
 
-ends-apart : (ks : List Kind) (v : Values ks) (rest : List ℕ) → follows ks ≡ true → Spells (partsOf ks v) rest → noDigit rest ≡ true
-unfolding noDigit isDigit
+ends-apart : (ks : List Kind) (v : Values ks) (rest : List ℕ) → follows ks ≡ true → Spells (partsOf ks v) rest → numeralEnds rest ≡ true
 ends-apart [] v rest e h = rw h
 ends-apart (text t ∷ ks) v rest e (s, more, p, f, h) = rw (f, p) (opened (bytes t) more e)
 ends-apart (rule ∷ ks) v rest e (s, more, p, f, h) = go (v .0) p
   where
-    go : (r : Rule) → s ≡ bytes (ruleText r) → noDigit rest ≡ true
+    go : (r : Rule) → s ≡ bytes (ruleText r) → numeralEnds rest ≡ true
     go Im q = rw (f, q)
     go Mm q = rw (f, q)
 ends-apart (number ∷ ks) v rest e h = absurd (let k : _≡_ {A = ℕ} 0 1 = cc in omega arith)
@@ -146,18 +165,17 @@ pub rest-is : (line : List ℕ) (at : ℕ) (s rest : List ℕ) → drop at line 
 rest-is line at s rest e = sym (drop-drop (length s) at line) ∙ ap (λ (x : List ℕ). drop (length s) x) e ∙ drop-at s rest (length s) refl
 
 -- a rule's text is read as that rule
-rule-read : {A : Type 0} (r : Rule) (line : List ℕ) (at : ℕ) (rest : List ℕ) (k : Rule → ℕ → Option A) → drop at line ≡ bytes (ruleText r) ++ rest
-    → afterRule (wordAt line at (bytes (ruleText Im))) (wordAt line at (bytes (ruleText Mm))) k ≡ k r (at + length (bytes (ruleText r)))
-unfolding startsWith
-rule-read Im line at rest k e = rw (word-found line at (bytes (ruleText Im)) rest e)
-rule-read Mm line at rest k e =
+rule-read : (r : Rule) (line : List ℕ) (at : ℕ) (rest : List ℕ) → drop at line ≡ bytes (ruleText r) ++ rest → ruleAt line at ≡ R.Of r (at + length (bytes (ruleText r)))
+unfolding ruleAt startsWith
+rule-read Im line at rest e = rw (word-found line at (bytes (ruleText Im)) rest e)
+rule-read Mm line at rest e =
     rw (word-other line at (bytes (ruleText Im)) (rw e), word-found line at (bytes (ruleText Mm)) rest e)
 
 pub complete : (ks : List Kind) → apart ks ≡ true → (line : List ℕ) (at : ℕ) (v : Values ks) → Spells (partsOf ks v) (drop at line) → readParts ks line at ≡ some v
 unfolding readParts
 complete [] a line at v e =
     let short : length line ≤ at = omega (arith, length-drop at line, ap length e) in
-    rw (le-leb (length line) at short)
+    rw (end-here line at short)
 complete (text t ∷ ks) a line at v (s, rest, p, f, h) =
     let here : drop at line ≡ bytes t ++ rest = f ∙ ap (λ (x : List ℕ). x ++ rest) p in
     rw (word-found line at (bytes t) rest here)
@@ -165,8 +183,7 @@ complete (text t ∷ ks) a line at v (s, rest, p, f, h) =
 complete (rule ∷ ks) a line at v (s, rest, p, f, h) =
     let spelt = bytes (ruleText (v .0)) in
     let here : drop at line ≡ spelt ++ rest = f ∙ ap (λ (x : List ℕ). x ++ rest) p in
-    rule-read (v .0) line at rest (λ r next. before r (readParts ks line next)) here
-    ∙ rw (complete ks a line (at + length spelt) (v .1) (rw (rest-is line at spelt rest here) h))
+    rw (rule-read (v .0) line at rest here, complete ks a line (at + length spelt) (v .1) (rw (rest-is line at spelt rest here) h))
 complete (number ∷ ks) a line at v (s, rest, p, f, h) =
     let apartness = both (follows ks) (apart ks) a in
     rw (
@@ -180,30 +197,3 @@ complete (edge ∷ ks) a line at v (s, rest, p, f, h) =
       complete ks (apartness .1) line (at + length s) (v .1) (rw (rest-is line at s rest f) h),
       integer-is (v .0),
     )
-
--- ---- the rule that the code found
-
-module _ {A : Type 0} (line : List ℕ) (at : ℕ) (k : Rule → ℕ → Option A) where
-  pub rule-found : (r : Rule) (next : ℕ) → ruleAt line at ≡ R.Of r next → afterRule (wordAt line at (bytes (ruleText Im))) (wordAt line at (bytes (ruleText Mm))) k ≡ k r next
-  unfolding ruleAt
-  rule-found r next e = go (wordAt line at (bytes (ruleText Im))) (wordAt line at (bytes (ruleText Mm))) e
-    where
-      go : (im mm : Word) → ruleFrom im mm ≡ R.Of r next → afterRule im mm k ≡ k r next
-      go (After n) mm h =
-          let same : Im ≡ r = cc in
-          let place : n ≡ next = cc in
-          rw (same, place)
-      go Other (After n) h =
-          let same : Mm ≡ r = cc in
-          let place : n ≡ next = cc in
-          rw (same, place)
-      go Other Other h = absurd (let z : _≡_ {A = ℕ} 0 1 = cc in omega arith)
-
-  pub rule-absent : ruleAt line at ≡ R.Absent → afterRule (wordAt line at (bytes (ruleText Im))) (wordAt line at (bytes (ruleText Mm))) k ≡ none
-  unfolding ruleAt
-  rule-absent e = go (wordAt line at (bytes (ruleText Im))) (wordAt line at (bytes (ruleText Mm))) e
-    where
-      go : (im mm : Word) → ruleFrom im mm ≡ R.Absent → afterRule im mm k ≡ none
-      go (After n) mm h = absurd (let z : _≡_ {A = ℕ} 0 1 = cc in omega arith)
-      go Other (After n) h = absurd (let z : _≡_ {A = ℕ} 0 1 = cc in omega arith)
-      go Other Other h = refl

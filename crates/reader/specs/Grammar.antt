@@ -6,10 +6,10 @@ use mathlib.Core.Logic.{_↔_}
 use Prim.Native.Nat.{ℕ, _≤_}
 use lib.ListN.{length}
 use Rattle.command.specs.Forms.{Form, IsSpelling}
-use Rattle.command.specs.Limits.{keeps, formOf, longestLine}
-use Rattle.reader.specs.Reading.{readingOf}
+use Rattle.command.specs.Limits.{keeps, formOf, numberOf}
+use Rattle.reader.specs.Reading.{longestLine, readingOf}
 use Rattle.command.specs.declared.Command.{Command}
-use Rattle.command.specs.declared.Reading.the-variants.{Accepted, NoShape, OutsideLimits}
+use Rattle.command.specs.declared.Reading.the-variants.{Accepted}
 
 -- The line is a spelling of the form, and at most 120 bytes long.
 pub record Shaped (f : Form) (line : List ℕ) : Type 0 where
@@ -21,8 +21,8 @@ pub record ReadsTheGrammar (line : List ℕ) : Type 0 where
   -- a command exactly when the line is the spelling of that command's form, and keeps every limit
   pub command : (c : Command) → (readingOf line ≡ Accepted c) ↔ (Shaped (formOf c) line × (keeps (formOf c) ≡ true))
   -- 2 exactly when it is such a spelling and breaks a limit
-  pub outside : (readingOf line ≡ OutsideLimits) ↔ ((f : Form) × Shaped f line × (keeps f ≡ false))
+  pub outside : (numberOf (readingOf line) ≡ 2) ↔ ((f : Form) × Shaped f line × (keeps f ≡ false))
   -- 1 exactly when it is the spelling of no form, or is too long
-  pub shapeless : (readingOf line ≡ NoShape) ↔ ((f : Form) → Shaped f line → ⊥)
+  pub shapeless : (numberOf (readingOf line) ≡ 1) ↔ ((f : Form) → Shaped f line → ⊥)
   -- two forms with one spelling are one form
   pub one : (f g : Form) → IsSpelling f line → IsSpelling g line → f ≡ g

@@ -1,6 +1,5 @@
 -- What the reader answers, for a line of any bytes and any length: a total function on lists. `specs/Grammar.antt` states that it accepts
--- exactly the grammar of `specs/Forms.antt`.
-use mathlib.Core.Bool.{Bool, true, false}
+-- exactly the grammar of `command`'s `specs/Forms.antt`.
 use mathlib.Core.List.{List, [], _∷_}
 use mathlib.Core.Option.{Option, none, some}
 use Prim.Native.Nat.{ℕ}
@@ -19,9 +18,13 @@ use Rattle.numeral.specs.declared.read.Signed.the-variants as S
 use Rattle.command.specs.Edges.{interval}
 use Rattle.command.specs.Forms as F
 use Rattle.command.specs.Forms.{Form}
-use Rattle.command.specs.Limits.{limited, longestLine}
+use Rattle.command.specs.Limits.{limited}
 use Rattle.command.specs.declared.Rule.{Rule}
 use Rattle.command.specs.declared.Rule.the-variants.{Im, Mm}
+use Rattle.reader.specs.declared.parts.RuleAt.{RuleAt}
+use Rattle.reader.specs.declared.parts.RuleAt.the-variants as R
+use Rattle.reader.specs.declared.parts.End.{End}
+use Rattle.reader.specs.declared.parts.End.the-variants as E
 use Rattle.command.specs.declared.Reading.{Reading}
 use Rattle.command.specs.declared.Reading.the-variants.{NoShape}
 
@@ -38,6 +41,19 @@ Values (rule ∷ ks) = Rule × Values ks
 Values (number ∷ ks) = ℕ × Values ks
 Values (edge ∷ ks) = ℤ × Values ks
 
+-- The rule whose word stands at the place, with the place after it.
+abbrev pub ruleFrom : Word → Word → RuleAt
+ruleFrom (After next) w = R.Of Im next
+ruleFrom Other (After next) = R.Of Mm next
+ruleFrom Other Other = R.Absent
+
+unfoldable pub ruleAt : List ℕ → ℕ → RuleAt
+ruleAt line at = ruleFrom (wordAt line at (bytes (F.ruleText Im))) (wordAt line at (bytes (F.ruleText Mm)))
+
+-- Whether the line ends at the place.
+unfoldable pub endAt : List ℕ → ℕ → End
+endAt line at = choose (leb (length line) at) (λ _. E.Here) (λ _. E.Later)
+
 -- A value before those that follow it.
 abbrev pub before : {A B : Type 0} → A → Option B → Option (A × B)
 before a none = none
@@ -48,10 +64,13 @@ abbrev pub afterWord : {A : Type 0} → Word → (ℕ → Option A) → Option A
 afterWord (After next) k = k next
 afterWord Other k = none
 
-abbrev pub afterRule : {A : Type 0} → Word → Word → (Rule → ℕ → Option A) → Option A
-afterRule (After next) w k = k Im next
-afterRule Other (After next) k = k Mm next
-afterRule Other Other k = none
+abbrev pub afterRule : {A : Type 0} → RuleAt → (Rule → ℕ → Option A) → Option A
+afterRule (R.Of r next) k = k r next
+afterRule R.Absent k = none
+
+abbrev pub atEnd : {A : Type 0} → End → A → Option A
+atEnd E.Here a = some a
+atEnd E.Later a = none
 
 abbrev pub afterNumber : {A : Type 0} → Number → (ℕ → ℕ → Option A) → Option A
 afterNumber (N.Of n next) k = k n next
@@ -63,10 +82,9 @@ afterSigned S.Absent k = none
 
 -- Parts of these kinds from the place to the line's last byte, 'and no byte after its last bracket'.
 unfoldable pub readParts : (ks : List Kind) → List ℕ → ℕ → Option (Values ks)
-readParts [] line at = choose (leb (length line) at) (λ _. some tt) (λ _. none)
+readParts [] line at = atEnd (endAt line at) tt
 readParts (text t ∷ ks) line at = afterWord (wordAt line at (bytes t)) (λ next. readParts ks line next)
-readParts (rule ∷ ks) line at =
-    afterRule (wordAt line at (bytes (F.ruleText Im))) (wordAt line at (bytes (F.ruleText Mm))) (λ r next. before r (readParts ks line next))
+readParts (rule ∷ ks) line at = afterRule (ruleAt line at) (λ r next. before r (readParts ks line next))
 readParts (number ∷ ks) line at = afterNumber (numberAt line at) (λ n next. before n (readParts ks line next))
 readParts (edge ∷ ks) line at = afterSigned (signedAt line at) (λ z next. before z (readParts ks line next))
 
@@ -147,6 +165,10 @@ judged (some f) = limited f
 -- What a line is that begins with the shape's text, and goes on at the place.
 unfoldable pub shapedFrom : Shape → List ℕ → ℕ → Reading
 shapedFrom s line at = judged (formed (s .form) (readParts (s .kinds) line at))
+
+-- 'A line is at most 120 bytes, without its LF.'
+abbrev pub longestLine : ℕ
+longestLine = 120
 
 -- 'or over 120 bytes'
 unfoldable pub readingOf : List ℕ → Reading

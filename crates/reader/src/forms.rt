@@ -1,18 +1,20 @@
 // What follows the word of each form, part by part: the first part that is not there is refusal 1, and the numbers' limits come after
 // the whole shape.
 use crate::parts::Edges;
+use crate::parts::End;
 use crate::parts::LastNumber;
 use crate::parts::RuleAt;
+use crate::parts::end_at;
 use crate::parts::last_edges;
 use crate::parts::last_number;
 use crate::parts::rule_at;
 use command::Command;
 use command::Reading;
-use command::limits::drop_within;
-use command::limits::pass_within;
-use command::limits::reply_within;
-use command::limits::request_within;
-use command::limits::start_within;
+use command::accept::accept_drop;
+use command::accept::accept_pass;
+use command::accept::accept_reply;
+use command::accept::accept_request;
+use command::accept::accept_start;
 use numeral::read::Number;
 use numeral::read::read_number;
 use text::words::Word;
@@ -44,7 +46,7 @@ pub fn start_form(line: &[u8], at: usize) -> Reading
     let Edges::Of(lower, upper) = last_edges(line, at) else {
         return Reading::NoShape;
     };
-    start_within(board, rule, claim, lower, upper)
+    accept_start(board, rule, claim, lower, upper)
 }
 
 pub fn pass_form(line: &[u8], at: usize) -> Reading
@@ -53,7 +55,7 @@ pub fn pass_form(line: &[u8], at: usize) -> Reading
     let LastNumber::Of(ticks) = last_number(line, at) else {
         return Reading::NoShape;
     };
-    pass_within(ticks)
+    accept_pass(ticks)
 }
 
 pub fn request_form(line: &[u8], at: usize) -> Reading
@@ -62,7 +64,7 @@ pub fn request_form(line: &[u8], at: usize) -> Reading
     let LastNumber::Of(peer) = last_number(line, at) else {
         return Reading::NoShape;
     };
-    request_within(peer)
+    accept_request(peer)
 }
 
 pub fn reply_form(line: &[u8], at: usize) -> Reading
@@ -80,7 +82,7 @@ pub fn reply_form(line: &[u8], at: usize) -> Reading
     let Edges::Of(trailing, leading) = last_edges(line, at) else {
         return Reading::NoShape;
     };
-    reply_within(peer, tag, trailing, leading)
+    accept_reply(peer, tag, trailing, leading)
 }
 
 pub fn drop_form(line: &[u8], at: usize) -> Reading
@@ -89,24 +91,24 @@ pub fn drop_form(line: &[u8], at: usize) -> Reading
     let LastNumber::Of(peer) = last_number(line, at) else {
         return Reading::NoShape;
     };
-    drop_within(peer)
+    accept_drop(peer)
 }
 
 // '(read)' and '(waiting)' have no parts: no byte may follow.
 pub fn read_form(line: &[u8], at: usize) -> Reading
     ensures { λ r. ⌜ r ≡ shapedFrom readShape (now (line .entry)) at ⌝ }
 {
-    if at < line.len() {
+    let End::Here = end_at(line, at) else {
         return Reading::NoShape;
-    }
+    };
     Reading::Accepted(Command::Read)
 }
 
-pub fn waiting_form(line: &[u8], end: usize) -> Reading
-    ensures { λ r. ⌜ r ≡ shapedFrom waitingShape (now (line .entry)) end ⌝ }
+pub fn waiting_form(line: &[u8], at: usize) -> Reading
+    ensures { λ r. ⌜ r ≡ shapedFrom waitingShape (now (line .entry)) at ⌝ }
 {
-    if end < line.len() {
+    let End::Here = end_at(line, at) else {
         return Reading::NoShape;
-    }
+    };
     Reading::Accepted(Command::Waiting)
 }

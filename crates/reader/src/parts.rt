@@ -1,7 +1,7 @@
 // The parts that end a line, and the rule's word: what several forms share.
 
 use command::Rule;
-use command::limits::Edge;
+use command::accept::Edge;
 use numeral::read::Number;
 use numeral::read::Signed;
 use numeral::read::read_number;
@@ -9,13 +9,19 @@ use numeral::read::read_signed;
 use text::words::Word;
 use text::words::word_at;
 ghost use mathlib.Core.Path.{_≡_};
-ghost use Rattle.reader.specs.Parts.{ruleAt, edgesRead, numberRead};
-ghost use Rattle.reader.specs.Reading.{readParts, lastEdges, lastNumber};
+ghost use Rattle.reader.specs.Parts.{edgesRead, numberRead};
+ghost use Rattle.reader.specs.Reading.{ruleAt, endAt, readParts, lastEdges, lastNumber};
 
 // The rule whose word stands at a place with the place after it, or none.
 pub enum RuleAt {
     Of(Rule, usize),
     Absent,
+}
+
+// Whether the line ends at a place.
+pub enum End {
+    Here,
+    Later,
 }
 
 // The two edges that end a line, or that it does not end so.
@@ -41,6 +47,17 @@ pub fn rule_at(line: &[u8], at: usize) -> RuleAt
         return RuleAt::Absent;
     };
     RuleAt::Of(Rule::Mm, next)
+}
+
+// 'no byte after its last bracket'
+pub fn end_at(line: &[u8], at: usize) -> End
+    ensures { λ r. ⌜ r ≡ endAt (now (line .entry)) at ⌝ }
+{
+    if at < line.len() {
+        End::Later
+    } else {
+        End::Here
+    }
 }
 
 // ' (LOWER UPPER))' and no byte after it
@@ -77,12 +94,12 @@ pub fn last_edges(line: &[u8], at: usize) -> Edges
         negative,
         magnitude,
     };
-    let Word::After(last) = word_at(line, next, b"))") else {
+    let Word::After(end) = word_at(line, next, b"))") else {
         return Edges::Absent;
     };
-    if last < line.len() {
+    let End::Here = end_at(line, end) else {
         return Edges::Absent;
-    }
+    };
     Edges::Of(lower, upper)
 }
 
@@ -96,8 +113,8 @@ pub fn last_number(line: &[u8], at: usize) -> LastNumber
     let Word::After(end) = word_at(line, next, b")") else {
         return LastNumber::Absent;
     };
-    if end < line.len() {
+    let End::Here = end_at(line, end) else {
         return LastNumber::Absent;
-    }
+    };
     LastNumber::Of(n)
 }

@@ -1,5 +1,4 @@
 -- `command::limits::board_within` meets its contract: the test is the definition's.
-use borrow.Author.Needs.{needs}
 use mathlib.Core.Path.{refl}
 use Rattle.command.specs.Limits.{boardWithin}
 use Rattle.command.proofs.limits.board_within.Statement.{statement}

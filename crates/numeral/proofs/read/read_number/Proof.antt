@@ -3,16 +3,13 @@
 use borrow.Author.Needs.{needs}
 use native.Mathlib.Omega.{arith}
 use mathlib.Core.Path.{_≡_, sym, _∙_}
-use Prim.Native.Nat.{_-_, _<_, _≤_, _^_}
-use lib.ListN.{length, drop, getD}
-use Rattle.numeral.specs.Reading.{run, digitIn}
+use Prim.Native.Nat.{_-_}
+use lib.ListN.{length, drop}
+use Rattle.numeral.specs.Reading.{digitIn}
 use Rattle.numeral.specs.declared.read.Digit.the-variants as D
 use Rattle.numeral.proofs.Reading.{Progress, Step, Ended, progress-none, progress-more, step, ended, run-head, run-inside, number-absent, number-is, formed-not-empty, formed-not-long, formed-not-zero, formed-one, formed-more}
 use Rattle.numeral.proofs.read.read_number.Statement.{statement}
 use Rattle.numeral.proofs.read.read_number.Tie as tie
-use Rattle.numeral.proofs.read.read_number.Reads as reads
-use Rattle.numeral.proofs.read.read_number.Lts as lts
-use Rattle.numeral.proofs.read.digit_at.Reads as digit-at-reads
 
 abbrev Inv-loop : tie.InvT-loop
 Inv-loop line at value₀ next₀ value next = Progress line at value next

@@ -5,10 +5,6 @@ use mathlib.Core.Path.{sym, _∙_}
 use Rattle.numeral.specs.Reading.{signedAt, signedFrom, plain, negated}
 use Rattle.numeral.proofs.read.read_signed.Statement.{statement}
 use Rattle.numeral.proofs.read.read_signed.Tie as tie
-use Rattle.numeral.proofs.read.read_signed.Reads as reads
-use Rattle.numeral.proofs.read.read_signed.Lts as lts
-use Rattle.numeral.proofs.read.read_number.Reads as read-number-reads
-use Rattle.text.proofs.words.word_at.Reads as word-at-reads
 
 slice-aggregate-word-at : tie.Need-slice-aggregate-word-at
 slice-aggregate-word-at c = search needs

@@ -20,13 +20,13 @@ unfolding shapedFrom
 returns c =
     rw (sym (c .before .before .last-number .ensures) ∙ ap numberRead (c .enum-told .given .1))
 
-drop-within-requires : tie.Need-drop-within-requires
-drop-within-requires c κs = search needs
+accept-drop-requires : tie.Need-accept-drop-requires
+accept-drop-requires c κs = search needs
 
 returns-2 : tie.Need-returns-2
 unfolding shapedFrom
 returns-2 c =
-    rw (sym (c .before .before .before .before .last-number .ensures) ∙ ap numberRead (c .before .before .peer .given .1)) (c .drop-within .ensures)
+    rw (sym (c .before .before .before .before .last-number .ensures) ∙ ap numberRead (c .before .before .peer .given .1)) (c .accept-drop .ensures)
 
 pub drop-form-spec : {M : Type 1} → statement M
 drop-form-spec =
@@ -36,5 +36,5 @@ drop-form-spec =
     enum-known-peer
     enum-told
     returns
-    drop-within-requires
+    accept-drop-requires
     returns-2)

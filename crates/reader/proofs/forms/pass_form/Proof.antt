@@ -20,13 +20,13 @@ unfolding shapedFrom
 returns c =
     rw (sym (c .before .before .last-number .ensures) ∙ ap numberRead (c .enum-told .given .1))
 
-pass-within-requires : tie.Need-pass-within-requires
-pass-within-requires c κs = search needs
+accept-pass-requires : tie.Need-accept-pass-requires
+accept-pass-requires c κs = search needs
 
 returns-2 : tie.Need-returns-2
 unfolding shapedFrom
 returns-2 c =
-    rw (sym (c .before .before .before .before .last-number .ensures) ∙ ap numberRead (c .before .before .ticks .given .1)) (c .pass-within .ensures)
+    rw (sym (c .before .before .before .before .last-number .ensures) ∙ ap numberRead (c .before .before .ticks .given .1)) (c .accept-pass .ensures)
 
 pub pass-form-spec : {M : Type 1} → statement M
 pass-form-spec =
@@ -36,5 +36,5 @@ pass-form-spec =
     enum-known-ticks
     enum-told
     returns
-    pass-within-requires
+    accept-pass-requires
     returns-2)

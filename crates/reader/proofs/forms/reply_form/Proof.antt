@@ -77,8 +77,8 @@ returns-4 c =
       sym (c .before .before .last-edges .ensures) ∙ ap edgesRead (c .enum-told4 .given .1),
     )
 
-reply-within-requires : tie.Need-reply-within-requires
-reply-within-requires c κs = search needs
+accept-reply-requires : tie.Need-accept-reply-requires
+accept-reply-requires c κs = search needs
 
 returns-5 : tie.Need-returns-5
 unfolding shapedFrom readParts
@@ -88,7 +88,7 @@ returns-5 c =
       sym (c .before .before .before .before .before .before .before .before .before .before .before .before .word-at .ensures) ∙ c .before .before .before .before .before .before .before .before .before .before .at .given .1,
       sym (c .before .before .before .before .before .before .before .before .read-number2 .ensures) ∙ c .before .before .before .before .before .before .tag .given .1,
       sym (c .before .before .before .before .last-edges .ensures) ∙ ap edgesRead (c .before .before .trailing .given .1),
-    ) (c .reply-within .ensures)
+    ) (c .accept-reply .ensures)
 
 pub reply-form-spec : {M : Type 1} → statement M
 reply-form-spec =
@@ -111,5 +111,5 @@ reply-form-spec =
     enum-known-trailing
     enum-told-4
     returns-4
-    reply-within-requires
+    accept-reply-requires
     returns-5)

@@ -20,13 +20,13 @@ unfolding shapedFrom
 returns c =
     rw (sym (c .before .before .last-number .ensures) ∙ ap numberRead (c .enum-told .given .1))
 
-request-within-requires : tie.Need-request-within-requires
-request-within-requires c κs = search needs
+accept-request-requires : tie.Need-accept-request-requires
+accept-request-requires c κs = search needs
 
 returns-2 : tie.Need-returns-2
 unfolding shapedFrom
 returns-2 c =
-    rw (sym (c .before .before .before .before .last-number .ensures) ∙ ap numberRead (c .before .before .peer .given .1)) (c .request-within .ensures)
+    rw (sym (c .before .before .before .before .last-number .ensures) ∙ ap numberRead (c .before .before .peer .given .1)) (c .accept-request .ensures)
 
 pub request-form-spec : {M : Type 1} → statement M
 request-form-spec =
@@ -36,5 +36,5 @@ request-form-spec =
     enum-known-peer
     enum-told
     returns
-    request-within-requires
+    accept-request-requires
     returns-2)

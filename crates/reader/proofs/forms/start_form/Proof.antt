@@ -2,7 +2,6 @@
 use mathlib.Core.Path.{sym, ap, _∙_}
 use Rattle.reader.specs.Parts.{edgesRead}
 use Rattle.reader.specs.Reading.{shapedFrom, readParts}
-use Rattle.reader.proofs.PartLaws.{rule-found, rule-absent}
 use borrow.Author.Needs.{needs}
 use Rattle.reader.proofs.forms.start_form.Statement.{statement}
 use Rattle.reader.proofs.forms.start_form.Tie as tie
@@ -35,7 +34,7 @@ unfolding shapedFrom readParts
 returns-2 c =
     rw (
       sym (c .before .before .before .before .before .before .read-number .ensures) ∙ c .before .before .before .before .board .given .1,
-      rule-absent _ _ _ (sym (c .before .before .rule-at .ensures) ∙ c .enum-told2 .given .1),
+      sym (c .before .before .rule-at .ensures) ∙ c .enum-told2 .given .1,
     )
 
 read-number-requires-2 : tie.Need-read-number-requires-2
@@ -52,7 +51,7 @@ unfolding shapedFrom readParts
 returns-3 c =
     rw (
       sym (c .before .before .before .before .before .before .before .before .before .before .read-number .ensures) ∙ c .before .before .before .before .before .before .before .before .board .given .1,
-      rule-found _ _ _ _ _ (sym (c .before .before .before .before .before .before .rule-at .ensures) ∙ c .before .before .before .before .rule .given .1),
+      sym (c .before .before .before .before .before .before .rule-at .ensures) ∙ c .before .before .before .before .rule .given .1,
       sym (c .before .before .read-number2 .ensures) ∙ c .enum-told3 .given .1,
     )
 
@@ -70,23 +69,23 @@ unfolding shapedFrom readParts
 returns-4 c =
     rw (
       sym (c .before .before .before .before .before .before .before .before .before .before .before .before .before .before .read-number .ensures) ∙ c .before .before .before .before .before .before .before .before .before .before .before .before .board .given .1,
-      rule-found _ _ _ _ _ (sym (c .before .before .before .before .before .before .before .before .before .before .rule-at .ensures) ∙ c .before .before .before .before .before .before .before .before .rule .given .1),
+      sym (c .before .before .before .before .before .before .before .before .before .before .rule-at .ensures) ∙ c .before .before .before .before .before .before .before .before .rule .given .1,
       sym (c .before .before .before .before .before .before .read-number2 .ensures) ∙ c .before .before .before .before .claim .given .1,
       sym (c .before .before .last-edges .ensures) ∙ ap edgesRead (c .enum-told4 .given .1),
     )
 
-start-within-requires : tie.Need-start-within-requires
-start-within-requires c κs = search needs
+accept-start-requires : tie.Need-accept-start-requires
+accept-start-requires c κs = search needs
 
 returns-5 : tie.Need-returns-5
 unfolding shapedFrom readParts
 returns-5 c =
     rw (
       sym (c .before .before .before .before .before .before .before .before .before .before .before .before .before .before .before .before .read-number .ensures) ∙ c .before .before .before .before .before .before .before .before .before .before .before .before .before .before .board .given .1,
-      rule-found _ _ _ _ _ (sym (c .before .before .before .before .before .before .before .before .before .before .before .before .rule-at .ensures) ∙ c .before .before .before .before .before .before .before .before .before .before .rule .given .1),
+      sym (c .before .before .before .before .before .before .before .before .before .before .before .before .rule-at .ensures) ∙ c .before .before .before .before .before .before .before .before .before .before .rule .given .1,
       sym (c .before .before .before .before .before .before .before .before .read-number2 .ensures) ∙ c .before .before .before .before .before .before .claim .given .1,
       sym (c .before .before .before .before .last-edges .ensures) ∙ ap edgesRead (c .before .before .lower .given .1),
-    ) (c .start-within .ensures)
+    ) (c .accept-start .ensures)
 
 pub start-form-spec : {M : Type 1} → statement M
 start-form-spec =
@@ -108,5 +107,5 @@ start-form-spec =
     enum-known-lower
     enum-told-4
     returns-4
-    start-within-requires
+    accept-start-requires
     returns-5)

@@ -1,5 +1,4 @@
 -- `reader::parts::last_edges` meets its contract: each answer on the way is the next case of `readParts`.
-use borrow.Author.Tests.{le-leb, lt-leb}
 use mathlib.Core.Path.{sym, _∙_}
 use Rattle.reader.specs.Reading.{readParts}
 use borrow.Author.Needs.{needs}
@@ -86,8 +85,8 @@ slice-aggregate-word-at-3 c = search needs
 word-at-requires-3 : tie.Need-word-at-requires-3
 word-at-requires-3 c κs = search needs
 
-enum-known-last : tie.Need-enum-known-last
-enum-known-last c = search needs
+enum-known-end : tie.Need-enum-known-end
+enum-known-end c = search needs
 
 enum-told-5 : tie.Need-enum-told-5
 enum-told-5 c = search needs
@@ -103,28 +102,37 @@ returns-5 c =
       sym (c .before .before .word-at3 .ensures) ∙ c .enum-told5 .given .1,
     )
 
+end-at-requires : tie.Need-end-at-requires
+end-at-requires c κs = search needs
+
+enum-told-6 : tie.Need-enum-told-6
+enum-told-6 c = search needs
+
+enum-told-7 : tie.Need-enum-told-7
+enum-told-7 c = search needs
+
 returns-6 : tie.Need-returns-6
 unfolding readParts
 returns-6 c =
     rw (
-      sym (c .before .before .before .before .before .before .before .before .before .before .before .before .before .before .before .before .before .before .before .before .before .before .word-at .ensures) ∙ c .before .before .before .before .before .before .before .before .before .before .before .before .before .before .before .before .before .before .before .before .first .given .1,
-      sym (c .before .before .before .before .before .before .before .before .before .before .before .before .before .before .before .before .before .before .read-signed .ensures) ∙ c .before .before .before .before .before .before .before .before .before .before .before .before .before .before .before .before .negative .given .1,
-      sym (c .before .before .before .before .before .before .before .before .before .before .before .before .before .word-at2 .ensures) ∙ c .before .before .before .before .before .before .before .before .before .before .before .second .given .1,
-      sym (c .before .before .before .before .before .before .before .before .before .read-signed2 .ensures) ∙ c .before .before .before .before .before .before .before .negative2 .given .1,
-      sym (c .before .before .before .before .word-at3 .ensures) ∙ c .before .before .last .given .1,
-      lt-leb _ _ (c .if1 .taken),
+      sym (c .before .before .before .before .before .before .before .before .before .before .before .before .before .before .before .before .before .before .before .before .before .before .before .before .word-at .ensures) ∙ c .before .before .before .before .before .before .before .before .before .before .before .before .before .before .before .before .before .before .before .before .before .before .first .given .1,
+      sym (c .before .before .before .before .before .before .before .before .before .before .before .before .before .before .before .before .before .before .before .before .read-signed .ensures) ∙ c .before .before .before .before .before .before .before .before .before .before .before .before .before .before .before .before .before .before .negative .given .1,
+      sym (c .before .before .before .before .before .before .before .before .before .before .before .before .before .before .before .word-at2 .ensures) ∙ c .before .before .before .before .before .before .before .before .before .before .before .before .before .second .given .1,
+      sym (c .before .before .before .before .before .before .before .before .before .before .before .read-signed2 .ensures) ∙ c .before .before .before .before .before .before .before .before .before .negative2 .given .1,
+      sym (c .before .before .before .before .before .before .word-at3 .ensures) ∙ c .before .before .before .before .end .given .1,
+      sym (c .before .before .end-at .ensures) ∙ c .enum-told7 .given .1,
     )
 
 returns-7 : tie.Need-returns-7
 unfolding readParts
 returns-7 c =
     rw (
-      sym (c .before .before .before .before .before .before .before .before .before .before .before .before .before .before .before .before .before .before .before .before .before .before .word-at .ensures) ∙ c .before .before .before .before .before .before .before .before .before .before .before .before .before .before .before .before .before .before .before .before .first .given .1,
-      sym (c .before .before .before .before .before .before .before .before .before .before .before .before .before .before .before .before .before .before .read-signed .ensures) ∙ c .before .before .before .before .before .before .before .before .before .before .before .before .before .before .before .before .negative .given .1,
-      sym (c .before .before .before .before .before .before .before .before .before .before .before .before .before .word-at2 .ensures) ∙ c .before .before .before .before .before .before .before .before .before .before .before .second .given .1,
-      sym (c .before .before .before .before .before .before .before .before .before .read-signed2 .ensures) ∙ c .before .before .before .before .before .before .before .negative2 .given .1,
-      sym (c .before .before .before .before .word-at3 .ensures) ∙ c .before .before .last .given .1,
-      le-leb _ _ (c .if1 .left),
+      sym (c .before .before .before .before .before .before .before .before .before .before .before .before .before .before .before .before .before .before .before .before .before .before .before .before .word-at .ensures) ∙ c .before .before .before .before .before .before .before .before .before .before .before .before .before .before .before .before .before .before .before .before .before .before .first .given .1,
+      sym (c .before .before .before .before .before .before .before .before .before .before .before .before .before .before .before .before .before .before .before .before .read-signed .ensures) ∙ c .before .before .before .before .before .before .before .before .before .before .before .before .before .before .before .before .before .before .negative .given .1,
+      sym (c .before .before .before .before .before .before .before .before .before .before .before .before .before .before .before .word-at2 .ensures) ∙ c .before .before .before .before .before .before .before .before .before .before .before .before .before .second .given .1,
+      sym (c .before .before .before .before .before .before .before .before .before .before .before .read-signed2 .ensures) ∙ c .before .before .before .before .before .before .before .before .before .negative2 .given .1,
+      sym (c .before .before .before .before .before .before .word-at3 .ensures) ∙ c .before .before .before .before .end .given .1,
+      sym (c .before .before .end-at .ensures) ∙ c .enum-told6 .given .1,
     )
 
 pub last-edges-spec : {M : Type 1} → statement M
@@ -151,8 +159,11 @@ last-edges-spec =
     returns-4
     slice-aggregate-word-at-3
     word-at-requires-3
-    enum-known-last
+    enum-known-end
     enum-told-5
     returns-5
+    end-at-requires
+    enum-told-6
+    enum-told-7
     returns-6
     returns-7)

@@ -1,5 +1,4 @@
 -- `reader::parts::last_number` meets its contract: each answer on the way is the next case of `readParts`.
-use borrow.Author.Tests.{le-leb, lt-leb}
 use mathlib.Core.Path.{sym, _∙_}
 use Rattle.reader.specs.Reading.{readParts}
 use borrow.Author.Needs.{needs}
@@ -40,22 +39,31 @@ returns-2 c =
       sym (c .before .before .word-at .ensures) ∙ c .enum-told2 .given .1,
     )
 
+end-at-requires : tie.Need-end-at-requires
+end-at-requires c κs = search needs
+
+enum-told-3 : tie.Need-enum-told-3
+enum-told-3 c = search needs
+
+enum-told-4 : tie.Need-enum-told-4
+enum-told-4 c = search needs
+
 returns-3 : tie.Need-returns-3
 unfolding readParts
 returns-3 c =
     rw (
-      sym (c .before .before .before .before .before .before .before .before .before .read-number .ensures) ∙ c .before .before .before .before .before .before .before .n .given .1,
-      sym (c .before .before .before .before .word-at .ensures) ∙ c .before .before .end .given .1,
-      lt-leb _ _ (c .if1 .taken),
+      sym (c .before .before .before .before .before .before .before .before .before .before .before .read-number .ensures) ∙ c .before .before .before .before .before .before .before .before .before .n .given .1,
+      sym (c .before .before .before .before .before .before .word-at .ensures) ∙ c .before .before .before .before .end .given .1,
+      sym (c .before .before .end-at .ensures) ∙ c .enum-told4 .given .1,
     )
 
 returns-4 : tie.Need-returns-4
 unfolding readParts
 returns-4 c =
     rw (
-      sym (c .before .before .before .before .before .before .before .before .before .read-number .ensures) ∙ c .before .before .before .before .before .before .before .n .given .1,
-      sym (c .before .before .before .before .word-at .ensures) ∙ c .before .before .end .given .1,
-      le-leb _ _ (c .if1 .left),
+      sym (c .before .before .before .before .before .before .before .before .before .before .before .read-number .ensures) ∙ c .before .before .before .before .before .before .before .before .before .n .given .1,
+      sym (c .before .before .before .before .before .before .word-at .ensures) ∙ c .before .before .before .before .end .given .1,
+      sym (c .before .before .end-at .ensures) ∙ c .enum-told3 .given .1,
     )
 
 pub last-number-spec : {M : Type 1} → statement M
@@ -71,5 +79,8 @@ last-number-spec =
     enum-known-end
     enum-told-2
     returns-2
+    end-at-requires
+    enum-told-3
+    enum-told-4
     returns-3
     returns-4)

@@ -1,6 +1,6 @@
 -- `reader::parts::rule_at` meets its contract: the answers of `word_at` pick the case of `ruleAt`.
 use mathlib.Core.Path.{sym, _∙_}
-use Rattle.reader.specs.Parts.{ruleAt}
+use Rattle.reader.specs.Reading.{ruleAt}
 use borrow.Author.Needs.{needs}
 use Rattle.reader.proofs.parts.rule_at.Statement.{statement}
 use Rattle.reader.proofs.parts.rule_at.Tie as tie

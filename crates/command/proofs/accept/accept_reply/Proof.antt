@@ -1,12 +1,12 @@
--- `command::limits::reply_within` meets its contract: each test on the way is one limit of the form, in the definition's order.
+-- `command::accept::accept_reply` meets its contract: each test on the way is one limit of the form, in the definition's order.
 use borrow.Author.Needs.{needs}
-use borrow.Author.Tests.{not-true, not-false, le-leb, lt-leb}
+use borrow.Author.Tests.{not-true, not-false}
 use native.Mathlib.Omega.{arith}
 use mathlib.Core.Path.{sym, _∙_}
-use Rattle.command.specs.Limits.{limited, tagWithin}
-use Rattle.command.proofs.LimitLaws.{board-bound, kept-bounds, broken-bounds}
-use Rattle.command.proofs.limits.reply_within.Statement.{statement}
-use Rattle.command.proofs.limits.reply_within.Tie as tie
+use Rattle.command.specs.Limits.{limited}
+use Rattle.command.proofs.LimitLaws.{board-bound, tag-bound, kept-bounds, broken-bounds}
+use Rattle.command.proofs.accept.accept_reply.Statement.{statement}
+use Rattle.command.proofs.accept.accept_reply.Tie as tie
 
 board-within-requires : tie.Need-board-within-requires
 board-within-requires c κs = search needs
@@ -15,13 +15,12 @@ returns : tie.Need-returns
 unfolding limited
 returns c = rw (sym (c .before .board-within .ensures) ∙ not-true _ (c .if1 .taken))
 
-returns-2 : tie.Need-returns-2
-unfolding limited tagWithin
-returns-2 c = rw (sym (c .before .before .board-within .ensures) ∙ not-false _ (c .before .if1 .left), lt-leb 1 _ (c .if2 .taken))
+tag-within-requires : tie.Need-tag-within-requires
+tag-within-requires c κs = search needs
 
-returns-3 : tie.Need-returns-3
-unfolding limited tagWithin
-returns-3 c = rw (sym (c .before .before .before .board-within .ensures) ∙ not-false _ (c .before .before .if1 .left), le-leb 1 _ (c .before .if2 .left), lt-leb _ 16777215 (c .if3 .taken))
+returns-2 : tie.Need-returns-2
+unfolding limited
+returns-2 c = rw (sym (c .before .before .before .board-within .ensures) ∙ not-false _ (c .before .before .if1 .left), sym (c .before .tag-within .ensures) ∙ not-true _ (c .if2 .taken))
 
 bounds-of-requires : tie.Need-bounds-of-requires
 bounds-of-requires c κs = search needs
@@ -32,13 +31,12 @@ enum-known-edges c = search needs
 enum-told : tie.Need-enum-told
 enum-told c = search needs
 
-returns-4 : tie.Need-returns-4
-unfolding limited tagWithin
-returns-4 c =
+returns-3 : tie.Need-returns-3
+unfolding limited
+returns-3 c =
     rw (
       sym (c .before .before .before .before .before .before .board-within .ensures) ∙ not-false _ (c .before .before .before .before .before .if1 .left),
-      le-leb 1 _ (c .before .before .before .before .if2 .left),
-      le-leb _ 16777215 (c .before .before .before .if3 .left),
+      sym (c .before .before .before .before .tag-within .ensures) ∙ not-false _ (c .before .before .before .if2 .left),
       broken-bounds _ (sym (c .before .before .bounds-of .ensures) ∙ c .enum-told .given .1),
     )
 
@@ -46,32 +44,31 @@ cast-t9 : tie.Need-cast-t9
 cast-t9 c = omega (arith, board-bound _ (sym (c .before .before .before .before .before .before .before .board-within .ensures) ∙ not-false _ (c .before .before .before .before .before .before .if1 .left)))
 
 cast-t10 : tie.Need-cast-t10
-cast-t10 c = search needs
+cast-t10 c = omega (arith, tag-bound _ (sym (c .before .before .before .before .before .tag-within .ensures) ∙ not-false _ (c .before .before .before .before .if2 .left)))
 
-returns-5 : tie.Need-returns-5
-unfolding limited tagWithin
-returns-5 c =
+returns-4 : tie.Need-returns-4
+unfolding limited
+returns-4 c =
     let (kept, same) = kept-bounds _ _ (sym (c .before .before .before .bounds-of .ensures) ∙ c .before .edges .given .1) in
     rw (
       same,
       sym (c .before .before .before .before .before .before .before .board-within .ensures) ∙ not-false _ (c .before .before .before .before .before .before .if1 .left),
-      le-leb 1 _ (c .before .before .before .before .before .if2 .left),
-      le-leb _ 16777215 (c .before .before .before .before .if3 .left),
+      sym (c .before .before .before .before .before .tag-within .ensures) ∙ not-false _ (c .before .before .before .before .if2 .left),
       kept,
     )
 
-pub reply-within-spec : {M : Type 1} → statement M
-reply-within-spec =
+pub accept-reply-spec : {M : Type 1} → statement M
+accept-reply-spec =
     tie.close
     (tie.spec
     board-within-requires
     returns
+    tag-within-requires
     returns-2
-    returns-3
     bounds-of-requires
     enum-known-edges
     enum-told
-    returns-4
+    returns-3
     cast-t9
     cast-t10
-    returns-5)
+    returns-4)

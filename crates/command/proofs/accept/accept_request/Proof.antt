@@ -1,12 +1,12 @@
--- `command::limits::request_within` meets its contract: the board number is the form's one limit.
+-- `command::accept::accept_request` meets its contract: the form has one limit, and the test is it.
 use borrow.Author.Needs.{needs}
 use borrow.Author.Tests.{not-true, not-false}
 use native.Mathlib.Omega.{arith}
 use mathlib.Core.Path.{sym, _∙_}
 use Rattle.command.specs.Forms as F
 use Rattle.command.proofs.LimitLaws.{limited-keeps, limited-breaks, board-bound}
-use Rattle.command.proofs.limits.request_within.Statement.{statement}
-use Rattle.command.proofs.limits.request_within.Tie as tie
+use Rattle.command.proofs.accept.accept_request.Statement.{statement}
+use Rattle.command.proofs.accept.accept_request.Tie as tie
 
 board-within-requires : tie.Need-board-within-requires
 board-within-requires c κs = search needs
@@ -20,5 +20,5 @@ cast-t4 c = omega (arith, board-bound _ (sym (c .before .board-within .ensures) 
 returns-2 : tie.Need-returns-2
 returns-2 c = sym (limited-keeps (F.request _) (sym (c .before .board-within .ensures) ∙ not-false _ (c .if1 .left)))
 
-pub request-within-spec : {M : Type 1} → statement M
-request-within-spec = tie.close (tie.spec board-within-requires returns cast-t4 returns-2)
+pub accept-request-spec : {M : Type 1} → statement M
+accept-request-spec = tie.close (tie.spec board-within-requires returns cast-t4 returns-2)
