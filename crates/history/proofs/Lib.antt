@@ -1,0 +1,9 @@
+-- Demand 3, proved: sets of moments, the invariant that ties the keeper to the log, and the theorem.
+pub mod Sets
+pub mod States
+pub mod Invariant
+pub mod Steps
+pub mod Replies
+pub mod Commands
+pub mod Lines
+pub mod Theorem

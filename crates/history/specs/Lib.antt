@@ -1,0 +1,4 @@
+-- The log, courses, and demand 3.
+pub mod Log
+pub mod Course
+pub mod Demand3

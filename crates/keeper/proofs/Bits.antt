@@ -1,0 +1,175 @@
+-- Laws of the mask of waiting peers, bit by bit, and of tests over the sixteen peers.
+use mathlib.Core.Path.{_≡_, refl, sym, ap, _∙_}
+use mathlib.Core.Bool.{Bool, true, false, _&&_}
+use Prim.Native.Nat.{ℕ, zero, suc, _+_, _-_, _/_, _%_, _^_, _<_, _≤_}
+use native.Mathlib.Nat.{pow-suc, div-one}
+use native.Mathlib.Omega.{arith}
+use borrow.Author.Tests.{eq-eqb, ne-eqb, eqb-true, eqb-false}
+use lib.Dec.{eqb, eqb·suc-suc}
+use lib.Count.{ones, ones-step, ones-le}
+use lib.Pow.{shr-shr}
+use Rattle.text.specs.Words.{choose}
+use Rattle.keeper.specs.State.{bitOf, allBelow, countBelow, one, put}
+
+-- ---- tests that are joined
+
+pub both : (p q : Bool) → p && q ≡ true → (p ≡ true) × (q ≡ true)
+both true q h = (refl, h)
+both false q h = absurd (let k : _≡_ {A = ℕ} 0 1 = cc in omega arith)
+
+pub join : {p q : Bool} → p ≡ true → q ≡ true → p && q ≡ true
+join d e = rw (d, e)
+
+pub clash : {t : Bool} → t ≡ true → t ≡ false → ⊥
+clash d e = let k : _≡_ {A = ℕ} 0 1 = cc in omega arith
+
+-- ---- one bit
+
+-- the first bit is the remainder by 2, and the others are those of the half
+pub bit-zero : (m : ℕ) → bitOf m 0 ≡ eqb (m % 2) 1
+unfolding bitOf
+bit-zero m = ap (λ (x : ℕ). eqb (x % 2) 1) (div-one m)
+
+pub bit-suc : (m p : ℕ) → bitOf m (suc p) ≡ bitOf (m / 2) p
+unfolding bitOf
+bit-suc m p = ap (λ (x : ℕ). eqb (x % 2) 1) (ap (λ (k : ℕ). m / 2 ^ k) (one-more p) ∙ sym (shr-shr m 1 p))
+  where
+    one-more : (p : ℕ) → suc p ≡ 1 + p
+    one-more p = omega arith
+
+odd : (m : ℕ) → eqb (m % 2) 1 ≡ true → m % 2 ≡ 1
+odd m e = eqb-true (m % 2) 1 e
+
+even : (m : ℕ) → eqb (m % 2) 1 ≡ false → m % 2 ≡ 0
+even m e = go (m % 2) refl
+  where
+    go : (r : ℕ) → m % 2 ≡ r → m % 2 ≡ 0
+    go zero h = h
+    go (suc zero) h = absurd (eqb-false (m % 2) 1 e h)
+    go (suc (suc r)) h = absurd (omega arith)
+
+-- a bit that is set is at most the mask; one that is not leaves room below the power
+pub bit-le : (m p : ℕ) → bitOf m p ≡ true → 2 ^ p ≤ m
+bit-le m zero e = omega (arith, odd m (sym (bit-zero m) ∙ e))
+bit-le m (suc p) e = omega (arith, pow-suc 2 p, bit-le (m / 2) p (sym (bit-suc m p) ∙ e))
+
+pub bit-room : (n m p : ℕ) → m < 2 ^ n → p < n → bitOf m p ≡ false → m + 2 ^ p < 2 ^ n
+bit-room zero m p h l e = absurd (omega arith)
+bit-room (suc n) m zero h l e = omega (arith, pow-suc 2 n, even m (sym (bit-zero m) ∙ e))
+bit-room (suc n) m (suc p) h l e =
+    omega (arith, pow-suc 2 n, pow-suc 2 p, bit-room n (m / 2) p (omega (arith, pow-suc 2 n)) (omega arith) (sym (bit-suc m p) ∙ e))
+
+-- beyond the mask's width no bit is set
+pub bit-beyond : (n m p : ℕ) → m < 2 ^ n → n ≤ p → bitOf m p ≡ false
+bit-beyond zero m zero h l = bit-zero m ∙ ne-eqb (m % 2) 1 (λ e. omega arith)
+bit-beyond zero m (suc p) h l = bit-suc m p ∙ bit-beyond zero (m / 2) p (omega arith) (omega arith)
+bit-beyond (suc n) m zero h l = absurd (omega arith)
+bit-beyond (suc n) m (suc p) h l = bit-suc m p ∙ bit-beyond n (m / 2) p (omega (arith, pow-suc 2 n)) (omega arith)
+
+below : (p n : ℕ) → (p ≡ n → ⊥) → p < suc n → p < n
+below p n d h = omega (arith, d)
+
+-- ---- a bit set, and a bit cleared
+
+same-zero : (m k : ℕ) → m % 2 ≡ k % 2 → bitOf m 0 ≡ bitOf k 0
+same-zero m k e = bit-zero m ∙ ap (λ (x : ℕ). eqb x 1) e ∙ sym (bit-zero k)
+
+put-zero : (m k : ℕ) (b : Bool) → eqb (k % 2) 1 ≡ b → k / 2 ≡ m / 2 → (q : ℕ) → bitOf k q ≡ put (bitOf m) 0 b q
+unfolding put
+put-zero m k b e h zero = bit-zero k ∙ e
+put-zero m k b e h (suc q) = bit-suc k q ∙ ap (λ (x : ℕ). bitOf x q) h ∙ sym (bit-suc m q) ∙ rw (ne-eqb (suc q) 0 (λ z. omega arith))
+
+put-suc : (m p : ℕ) (b : Bool) (q : ℕ) → put (bitOf m) (suc p) b (suc q) ≡ put (bitOf (m / 2)) p b q
+unfolding put
+put-suc m p b q = rw (eqb·suc-suc q p, bit-suc m q)
+
+-- bit by bit, from the first bit and from those of the half
+by-place : (m k p : ℕ) (b : Bool) → k % 2 ≡ m % 2 → ((q : ℕ) → bitOf (k / 2) q ≡ put (bitOf (m / 2)) p b q) → (q : ℕ) → bitOf k q ≡ put (bitOf m) (suc p) b q
+unfolding put
+by-place m k p b e h zero = same-zero k m e ∙ rw (ne-eqb 0 (suc p) (λ z. omega arith))
+by-place m k p b e h (suc q) = bit-suc k q ∙ h q ∙ sym (put-suc m p b q)
+
+pub bit-set : (m p : ℕ) → bitOf m p ≡ false → (q : ℕ) → bitOf (m + 2 ^ p) q ≡ put (bitOf m) p true q
+bit-set m zero e q =
+    let clear : m % 2 ≡ 0 = even m (sym (bit-zero m) ∙ e) in
+    put-zero m (m + 2 ^ 0) true (eq-eqb ((m + 2 ^ 0) % 2) 1 (omega arith)) (omega arith) q
+bit-set m (suc p) e q =
+    let half : (m + 2 ^ suc p) / 2 ≡ m / 2 + 2 ^ p = omega (arith, pow-suc 2 p) in
+    let first : (m + 2 ^ suc p) % 2 ≡ m % 2 = omega (arith, pow-suc 2 p) in
+    by-place m (m + 2 ^ suc p) p true first (λ q. ap (λ (x : ℕ). bitOf x q) half ∙ bit-set (m / 2) p (sym (bit-suc m p) ∙ e) q) q
+
+pub bit-cleared : (m p : ℕ) → bitOf m p ≡ true → (q : ℕ) → bitOf (m - 2 ^ p) q ≡ put (bitOf m) p false q
+bit-cleared m zero e q =
+    let set : m % 2 ≡ 1 = odd m (sym (bit-zero m) ∙ e) in
+    put-zero m (m - 2 ^ 0) false (ne-eqb ((m - 2 ^ 0) % 2) 1 (λ h. omega arith)) (omega arith) q
+bit-cleared m (suc p) e q =
+    let within : 2 ^ suc p ≤ m = bit-le m (suc p) e in
+    let half : (m - 2 ^ suc p) / 2 ≡ m / 2 - 2 ^ p = omega (arith, pow-suc 2 p) in
+    let first : (m - 2 ^ suc p) % 2 ≡ m % 2 = omega (arith, pow-suc 2 p) in
+    by-place m (m - 2 ^ suc p) p false first (λ q. ap (λ (x : ℕ). bitOf x q) half ∙ bit-cleared (m / 2) p (sym (bit-suc m p) ∙ e) q) q
+
+-- ---- tests over the peers
+
+pub all-at : (n : ℕ) (test : ℕ → Bool) → allBelow n test ≡ true → (p : ℕ) → p < n → test p ≡ true
+unfolding allBelow
+all-at zero test e p h = absurd (omega arith)
+all-at (suc n) test e p h = go (eqb p n) refl (λ q r. all-at n test q p r)
+  where
+    parts : (allBelow n test ≡ true) × (test n ≡ true)
+    parts = both (allBelow n test) (test n) e
+
+    go : (t : Bool) → eqb p n ≡ t → (allBelow n test ≡ true → p < n → test p ≡ true) → test p ≡ true
+    go true d r = ap test (eqb-true p n d) ∙ parts .1
+    go false d r = r (parts .0) (below p n (eqb-false p n d) h)
+
+pub all-made : (n : ℕ) (test : ℕ → Bool) → ((p : ℕ) → p < n → test p ≡ true) → allBelow n test ≡ true
+unfolding allBelow
+all-made zero test h = refl
+all-made (suc n) test h = rw (all-made n test (λ p l. h p (omega arith)), h n (omega arith))
+
+pub all-broken : (n : ℕ) (test : ℕ → Bool) (p : ℕ) → p < n → test p ≡ false → allBelow n test ≡ false
+all-broken n test p h e = go (allBelow n test) refl
+  where
+    go : (t : Bool) → allBelow n test ≡ t → allBelow n test ≡ false
+    go true d = absurd (clash (all-at n test d p h) e)
+    go false d = d
+
+-- ---- counts
+
+pub count-same : (n : ℕ) (f g : ℕ → Bool) → ((p : ℕ) → p < n → f p ≡ g p) → countBelow n f ≡ countBelow n g
+unfolding countBelow
+count-same zero f g h = refl
+count-same (suc n) f g h = rw (count-same n f g (λ p l. h p (omega arith)), h n (omega arith))
+
+pub count-put : (n : ℕ) (f : ℕ → Bool) (p : ℕ) (b : Bool) → p < n → countBelow n (put f p b) + one (f p) ≡ countBelow n f + one b
+unfolding countBelow put
+count-put zero f p b h = absurd (omega arith)
+count-put (suc n) f p b h = go (eqb n p) refl (λ l. count-put n f p b l)
+  where
+    go : (t : Bool) → eqb n p ≡ t → (p < n → countBelow n (put f p b) + one (f p) ≡ countBelow n f + one b)
+        → countBelow n (put f p b) + one (choose t (λ _. b) (λ _. f n)) + one (f p) ≡ countBelow n f + one (f n) + one b
+    go true e r =
+        let same : n ≡ p = eqb-true n p e in
+        let others : countBelow n (put f p b) ≡ countBelow n f = count-same n (put f p b) f (λ q l. rw (ne-eqb q p (λ z. omega arith))) in
+        rw (others, ap f same) (omega arith)
+    go false e r = let l : p < n = below p n (λ z. eqb-false n p e (sym z)) h in omega (arith, r l)
+
+-- the count of the set bits, as the machine counts them
+count-shift : (n : ℕ) (f : ℕ → Bool) → countBelow (suc n) f ≡ one (f 0) + countBelow n (λ p. f (suc p))
+unfolding countBelow
+count-shift zero f = omega arith
+count-shift (suc n) f = rw (count-shift n f) (omega arith)
+
+bit-one : (m : ℕ) → one (eqb (m % 2) 1) ≡ m % 2
+bit-one m = go (eqb (m % 2) 1) refl
+  where
+    go : (t : Bool) → eqb (m % 2) 1 ≡ t → one t ≡ m % 2
+    go true e = sym (odd m e)
+    go false e = sym (even m e)
+
+pub count-ones : (n m : ℕ) → m < 2 ^ n → countBelow n (bitOf m) ≡ ones m
+unfolding countBelow
+count-ones zero m h = omega (arith, ones-le 0 m h)
+count-ones (suc n) m h =
+    count-shift n (bitOf m)
+    ∙ rw (bit-zero m, bit-one m, count-same n (λ p. bitOf m (suc p)) (bitOf (m / 2)) (λ p l. bit-suc m p), count-ones n (m / 2) (omega (arith, pow-suc 2 n))) (sym (ones-step m))

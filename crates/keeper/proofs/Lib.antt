@@ -1,0 +1,5 @@
+-- Laws about the definitions of specs/.
+pub mod Bits
+pub mod Kept
+pub mod Edges
+pub mod Causes

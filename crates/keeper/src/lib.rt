@@ -1,0 +1,45 @@
+// The keeper of one board's time: document 01, 'Moments and ticks' and 'The calls'.
+use command::Rule;
+use moment::Interval;
+
+// Of each other board (a peer, 0..15): its bit of `waiting` is set while a request to it waits, with the request's tag and the tick
+// count when it was sent; a peer with none waiting holds 0 for both.
+pub struct Keeper {
+    pub started: bool,
+    pub board: u8,
+    pub rule: Rule,
+    pub claim: u16,
+    pub edges: Interval,
+    pub ticks: u64,
+    pub requests: u32,
+    pub conflicts: u32,
+    pub waiting: u16,
+    pub tags: [u32; 16],
+    pub sent_at: [u64; 16],
+}
+
+// What a command answers. `Refused` has the number of document 01's table.
+pub enum Answer {
+    Started(u8),
+    At(u64, Interval),
+    Sent(u8, u32),
+    Taken(u8, Interval),
+    Kept(u8, Interval),
+    Conflict(u8, Interval),
+    Dropped(u8),
+    Time {
+        edges: Interval,
+        centre: i64,
+        error: i64,
+        conflicts: u32,
+        waiting: u32,
+    },
+    Waiting,
+    Refused(u8),
+}
+
+// The answer, and the keeper handed back.
+pub struct Outcome {
+    pub answer: Answer,
+    pub keeper: Keeper,
+}

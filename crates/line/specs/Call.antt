@@ -1,0 +1,43 @@
+-- What a call with a line does: a keeper, a line of any bytes and a lent output of any length; back come the number, the keeper and the
+-- output. Document 01, 'Causes of a refusal': 'tried in the order 10, 1, 2, ..'.
+use mathlib.Core.Path.{_≡_}
+use mathlib.Core.Bool.{Bool, true, false}
+use mathlib.Core.List.{List, [], _∷_, _++_}
+use Prim.Native.Nat.{ℕ, _+_, _<_, _≤_}
+use lib.Dec.{ltb}
+use lib.ListN.{length, drop}
+use Rattle.text.specs.Words.{choose}
+use Rattle.command.specs.declared.Reading.{Reading}
+use Rattle.command.specs.declared.Reading.the-variants.{Accepted, NoShape, OutsideLimits}
+use Rattle.reader.specs.Reading.{readingOf}
+use Rattle.keeper.specs.Apply.{outcomeOf, apply, numberOf}
+use Rattle.keeper.specs.declared.Keeper.{Keeper}
+use Rattle.keeper.specs.declared.Outcome.{Outcome}
+use Rattle.keeper.specs.declared.Answer.the-variants as A
+use Rattle.line.specs.Answers.{IsLine}
+
+-- 'lent output under 256 bytes'
+abbrev pub leastOutput : ℕ
+leastOutput = 256
+
+-- What is answered to a line that was read.
+abbrev pub byReading : Reading → Keeper → Outcome
+byReading (Accepted c) k = apply k c
+byReading NoShape k = outcomeOf (A.Refused 1) k
+byReading OutsideLimits k = outcomeOf (A.Refused 2) k
+
+unfoldable pub answered : Keeper → List ℕ → Outcome
+answered k line = byReading (readingOf line) k
+
+-- The number returned, and the keeper handed back, with an output of the length.
+unfoldable pub numberAfter : Keeper → List ℕ → ℕ → ℕ
+numberAfter k line room = choose (ltb room leastOutput) (λ _. 10) (λ _. numberOf (answered k line .answer))
+
+unfoldable pub keeperAfter : Keeper → List ℕ → ℕ → Keeper
+keeperAfter k line room = choose (ltb room leastOutput) (λ _. k) (λ _. answered k line .keeper)
+
+-- The output after the call: 'each line written ends in LF' (10), and 'output beyond the line written is never touched'.
+pub record Written (k : Keeper) (line before after : List ℕ) : Type 0 where
+  pub untouched : length before < leastOutput → after ≡ before
+  pub written : leastOutput ≤ length before
+      → (s : List ℕ) × IsLine (answered k line .answer) (answered k line .keeper) s × (after ≡ s ++ 10 ∷ drop (length s + 1) before)
