@@ -1,5 +1,4 @@
--- Demand 3, proved: sets of moments, the invariant that ties the keeper to the log, and the theorem.
-pub mod Sets
+-- Demand 3, proved: the invariant that ties the keeper to the log, and the theorem.
 pub mod States
 pub mod Invariant
 pub mod Steps

@@ -18,7 +18,7 @@ use Rattle.keeper.specs.declared.Keeper.{Keeper}
 use Rattle.history.specs.Log.{logEnded, logReplied, logMoved, withState}
 use Rattle.history.specs.Course.{advanced, met, repliedEvent}
 use Rattle.keeper.proofs.Edges.{narrowed-within, adopted-within}
-use Rattle.history.proofs.Sets.{none-in-both, met-within, met-reached, adopted-holds}
+use Rattle.keeper.proofs.Sets.{none-in-both, met-within, met-reached, adopted-holds}
 use Rattle.history.proofs.Invariant.{logOf, Kept, Lands, Moves, counts}
 use Rattle.history.proofs.Steps.{ended-lands, still-follows}
 

@@ -18,7 +18,7 @@ use Rattle.history.specs.Log.{logStarted, logPassed, logAsked, logEnded,
 use Rattle.history.specs.Course.{advanced, passed}
 use Rattle.keeper.proofs.Edges.{widened-within}
 use Rattle.keeper.proofs.Kept.{begun-sized, at-sized, asked-sized, ended-sized, begun-kept, at-kept, asked-kept, ended-kept}
-use Rattle.history.proofs.Sets.{passed-within, passed-reached}
+use Rattle.keeper.proofs.Sets.{passed-within, passed-reached}
 use Rattle.history.proofs.States.{begun-state, at-state, asked-state, ended-state}
 use Rattle.history.proofs.Invariant.{logOf, Follows, Kept, Lands, Counts, counts, clash}
 

@@ -1,6 +1,6 @@
 -- Demand 3: one claim about every list of lines.
 use mathlib.Core.Path.{_≡_}
-use mathlib.Core.Bool.{Bool, true, false}
+use mathlib.Core.Bool.{true}
 use mathlib.Core.List.{List, [], _∷_}
 use mathlib.Core.Logic.{_↔_}
 use Prim.Native.Nat.{ℕ, _+_, _<_}
@@ -8,7 +8,7 @@ use lib.IntN.{ℤ}
 use lib.ListN.{getD}
 use Rattle.moment.specs.Moment.{Holds}
 use Rattle.command.specs.declared.Rule.the-variants.{Im, Mm}
-use Rattle.keeper.specs.State.{State, bitOf, countBelow, countsAsStarted, fresh}
+use Rattle.keeper.specs.State.{bitOf, countBelow, countsAsStarted, fresh}
 use Rattle.keeper.specs.declared.Keeper.{Keeper}
 use Rattle.line.specs.Call.{keeperAfter}
 use Rattle.history.specs.Log.{Input, Log, logStart, logAfter}

@@ -1,5 +1,5 @@
 -- The log: document 01, 'The log'. It 'is worked from that list alone and reads nothing from the keeper'.
-use mathlib.Core.Bool.{Bool, true, false}
+use mathlib.Core.Bool.{true, false}
 use mathlib.Core.List.{List, [], _∷_}
 use Prim.Native.Nat.{ℕ, _+_}
 use lib.Dec.{ltb, eqb}

@@ -3,3 +3,4 @@ pub mod Bits
 pub mod Kept
 pub mod Edges
 pub mod Causes
+pub mod Sets

@@ -1,8 +1,8 @@
 -- What each command does to a keeper, and what it answers: document 01, 'The calls'.
-use mathlib.Core.Bool.{Bool, true, false, not}
+use mathlib.Core.Bool.{true}
 use Prim.Native.Nat.{ℕ, _+_, _-_, _^_}
 use lib.Dec.{eqb}
-use lib.ListN.{getD, set}
+use lib.ListN.{set}
 use Rattle.text.specs.Words.{choose}
 use Rattle.moment.specs.declared.Interval.{Interval}
 use Rattle.command.specs.declared.Rule.{Rule}
@@ -10,7 +10,7 @@ use Rattle.command.specs.declared.Rule.the-variants.{Im, Mm}
 use Rattle.command.specs.declared.Command.{Command}
 use Rattle.command.specs.declared.Command.the-variants as C
 use Rattle.keeper.specs.Rules.{widened, narrowed, adopted, told, centre, errorOf}
-use Rattle.keeper.specs.State.{State, stateOf, bitOf, countBelow, fresh}
+use Rattle.keeper.specs.State.{stateOf, bitOf, countBelow, fresh}
 use Rattle.keeper.specs.Refusals.{refusal, waited, replyBracket, replyConflicts, adopts}
 use Rattle.keeper.specs.declared.Keeper.{Keeper}
 use Rattle.keeper.specs.declared.Outcome.{Outcome}

@@ -1,6 +1,6 @@
 -- Causes of a refusal, in document 01's order. 'The first cause that holds is given, tried in the order .. 2, 3, 4; then for request 6, 9; for
 -- reply 7, 8, the conflict test, 5; for drop 7; for pass 5.' (10 and 1 come before, where the line is looked at.)
-use mathlib.Core.Bool.{Bool, true, false, not, _&&_, _||_}
+use mathlib.Core.Bool.{Bool, true, false, not, _&&_}
 use mathlib.Core.List.{List, [], _∷_}
 use Prim.Native.Nat.{ℕ, _+_, _-_}
 use lib.Dec.{leb, ltb, eqb}

@@ -1,7 +1,6 @@
 -- The rules on edges: document 01, 'The calls', from MM-1, MM-2, IM-1 and IM-2 of the report. All numbers are integers here.
-use mathlib.Core.Path.{_≡_}
-use mathlib.Core.Bool.{Bool, true, false, not, _&&_}
-use Prim.Native.Nat.{ℕ, _+_, _*_}
+use mathlib.Core.Bool.{Bool, not, _&&_}
+use Prim.Native.Nat.{ℕ, _*_}
 use lib.IntN.{ℤ, pos, _+ℤ_, _-ℤ_}
 use lib.Signed.{leZ}
 use Rattle.moment.specs.Moment.{shortest, longest, inRange, largerOf, smallerOf, shareOne, floorHalf}

@@ -1,6 +1,5 @@
 -- What a keeper holds, and when one that is handed in counts as started: document 01, 'Moments and ticks'.
 use mathlib.Core.Bool.{Bool, true, false, not, _&&_, _||_}
-use mathlib.Core.List.{List}
 use Prim.Native.Nat.{ℕ, zero, suc, _+_, _/_, _%_, _^_}
 use lib.Dec.{leb, eqb}
 use lib.ListN.{getD, replicate}

@@ -1,8 +1,7 @@
 -- What a call with a line does: a keeper, a line of any bytes and a lent output of any length; back come the number, the keeper and the
 -- output. Document 01, 'Causes of a refusal': 'tried in the order 10, 1, 2, ..'.
 use mathlib.Core.Path.{_≡_}
-use mathlib.Core.Bool.{Bool, true, false}
-use mathlib.Core.List.{List, [], _∷_, _++_}
+use mathlib.Core.List.{List, _∷_, _++_}
 use Prim.Native.Nat.{ℕ, _+_, _<_, _≤_}
 use lib.Dec.{ltb}
 use lib.ListN.{length, drop}
@@ -13,6 +12,7 @@ use Rattle.reader.specs.Reading.{readingOf}
 use Rattle.keeper.specs.Apply.{outcomeOf, apply, numberOf}
 use Rattle.keeper.specs.declared.Keeper.{Keeper}
 use Rattle.keeper.specs.declared.Outcome.{Outcome}
+use Rattle.keeper.specs.declared.Answer.{Answer}
 use Rattle.keeper.specs.declared.Answer.the-variants as A
 use Rattle.line.specs.Answers.{IsLine}
 
@@ -36,8 +36,17 @@ numberAfter k line room = choose (ltb room leastOutput) (λ _. 10) (λ _. number
 unfoldable pub keeperAfter : Keeper → List ℕ → ℕ → Keeper
 keeperAfter k line room = choose (ltb room leastOutput) (λ _. k) (λ _. answered k line .keeper)
 
--- The output after the call: 'each line written ends in LF' (10), and 'output beyond the line written is never touched'.
-pub record Written (k : Keeper) (line before after : List ℕ) : Type 0 where
-  pub untouched : length before < leastOutput → after ≡ before
-  pub written : leastOutput ≤ length before
-      → (s : List ℕ) × IsLine (answered k line .answer) (answered k line .keeper) s × (after ≡ s ++ 10 ∷ drop (length s + 1) before)
+-- An answer's line was written at the front of an output: 'each line written ends in LF' (10), and 'output beyond the line written is never
+-- touched'. n is the length written.
+pub record Wrote (a : Answer) (k : Keeper) (before after : List ℕ) (n : ℕ) : Type 0 where
+  pub bytes : List ℕ
+  pub line : IsLine a k bytes
+  pub output : after ≡ bytes ++ 10 ∷ drop (length bytes + 1) before
+  pub written : n ≡ length bytes + 1
+
+-- The whole call: the number returned, the keeper handed back, the output after it and the length written.
+pub record Called (k : Keeper) (line before : List ℕ) (number : ℕ) (next : Keeper) (after : List ℕ) (n : ℕ) : Type 0 where
+  pub number-is : number ≡ numberAfter k line (length before)
+  pub keeper-is : next ≡ keeperAfter k line (length before)
+  pub untouched : length before < leastOutput → (after ≡ before) × (n ≡ 0)
+  pub written : leastOutput ≤ length before → Wrote (answered k line .answer) (answered k line .keeper) before after n

@@ -1,4 +1,5 @@
--- One step of a course against one step of the edges: sets of moments, in orders of integers alone.
+-- The rules as sets of moments: what a pass makes of the moments within the edges, and what a reply leaves of them. Demand 3 rests on these
+-- laws, and a rule with another meaning breaks them.
 use mathlib.Core.Path.{_≡_}
 use mathlib.Core.Bool.{true, false}
 use Prim.Native.Nat.{ℕ, _-_, _*_, _≤_, max}

@@ -1,0 +1,2 @@
+-- The marked examples follow from the definitions.
+pub mod Marked
