@@ -4,3 +4,4 @@ pub mod Kept
 pub mod Edges
 pub mod Causes
 pub mod Sets
+pub mod Outcomes
