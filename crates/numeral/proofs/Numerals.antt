@@ -140,7 +140,7 @@ described s = (to, from)
 
 -- the run of digits that do not go on is all of them
 pub run-all : {s : List ℕ} → AllDigits s → (rest : List ℕ) → numeralEnds rest ≡ true → run (s ++ rest) ≡ s
-unfolding run numeralEnds
+unfolding run
 run-all none rest e = ends rest e
   where
     ends : (rest : List ℕ) → numeralEnds rest ≡ true → run rest ≡ []
@@ -227,7 +227,7 @@ read-numeral line at n next e = go (wellFormed r) refl e
 
 -- a run of digits does not go on
 run-ends : (s : List ℕ) → numeralEnds (drop (length (run s)) s) ≡ true
-unfolding run numeralEnds
+unfolding run
 run-ends [] = refl
 run-ends (b ∷ s) = go (isDigit b) refl (run-ends s)
   where

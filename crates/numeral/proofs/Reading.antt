@@ -18,15 +18,12 @@ use Rattle.numeral.specs.declared.read.Number.the-variants as N
 -- ---- one byte
 
 pub is-digit : (b : ℕ) → 48 ≤ b → b ≤ 57 → isDigit b ≡ true
-unfolding isDigit
 is-digit b p q = rw (le-leb 48 b p, le-leb b 57 q)
 
 pub below-digits : (b : ℕ) → b < 48 → isDigit b ≡ false
-unfolding isDigit
 below-digits b p = rw (lt-leb 48 b p)
 
 pub above-digits : (b : ℕ) → 57 < b → isDigit b ≡ false
-unfolding isDigit
 above-digits b p = go (leb 48 b)
   where
     go : (t : Bool) → (t && leb b 57) ≡ false
@@ -34,7 +31,6 @@ above-digits b p = go (leb 48 b)
     go false = refl
 
 pub digit-bounds : (b : ℕ) → isDigit b ≡ true → (48 ≤ b) × (b ≤ 57)
-unfolding isDigit
 digit-bounds b e = go (leb 48 b) (leb b 57) refl refl e
   where
     go : (t u : Bool) → leb 48 b ≡ t → leb b 57 ≡ u → (t && u) ≡ true → (48 ≤ b) × (b ≤ 57)
