@@ -1,13 +1,11 @@
 -- An accepted command keeps the invariant.
 use mathlib.Core.Path.{_≡_, refl}
-use mathlib.Core.Bool.{Bool, true, false, _&&_}
-use mathlib.Core.List.{List, [], _∷_}
+use mathlib.Core.Bool.{true, _&&_}
 use Prim.Native.Nat.{ℕ, _+_, _<_}
 use native.Mathlib.Omega.{arith}
 use borrow.Author.Tests.{leb-true, leb-false, eqb-false, not-false}
 use lib.Dec.{leb}
 use lib.IntN.{ℤ}
-use Rattle.text.specs.Words.{choose}
 use Rattle.moment.specs.declared.Interval.{Interval}
 use Rattle.command.specs.Limits.{boardWithin, tagWithin, edgesWithin}
 use Rattle.command.specs.declared.Rule.{Rule}
@@ -15,35 +13,14 @@ use Rattle.command.specs.declared.Command.{Command}
 use Rattle.command.specs.declared.Command.the-variants as C
 use Rattle.keeper.specs.Rules.{widened, bothInRange}
 use Rattle.keeper.specs.State.{stateOf, mostTicks}
-use Rattle.keeper.specs.Refusals.{Cause, first, causes, refusal}
+use Rattle.keeper.specs.Refusals.{causes, refusal}
 use Rattle.keeper.specs.Apply.{accepted}
 use Rattle.keeper.specs.declared.Keeper.{Keeper}
+use Rattle.keeper.proofs.Causes.{accepted-none}
 use Rattle.history.specs.Log.{logMoved}
 use Rattle.history.proofs.Invariant.{logOf, Kept, Lands, Moves, counts, both}
 use Rattle.history.proofs.Steps.{start-lands, pass-lands, request-lands, ended-lands, still-follows}
 use Rattle.history.proofs.Replies.{Answers, reply-lands}
-
--- ---- the causes of an accepted command
-
--- no cause has the number 0, which stands for none
-abbrev Numbered : List Cause → Type 0
-Numbered [] = Unit {0}
-Numbered (c ∷ cs) = (0 < c .number) × Numbered cs
-
--- none of the causes holds
-abbrev None : List Cause → Type 0
-None [] = Unit {0}
-None (c ∷ cs) = (c .holds ≡ false) × None cs
-
--- If no number is given, no cause holds.
-none : (cs : List Cause) → Numbered cs → first cs ≡ 0 → None cs
-unfolding first
-none [] n e = tt
-none (c ∷ cs) n e = go (c .holds) refl e (λ r. none cs (n .1) r)
-  where
-    go : (t : Bool) → c .holds ≡ t → choose t (λ _. c .number) (λ _. first cs) ≡ 0 → (first cs ≡ 0 → None cs) → (c .holds ≡ false) × None cs
-    go true h z r = absurd (let big = n .0 in omega arith)
-    go false h z r = (h, r z)
 
 small : (peer : ℕ) → boardWithin peer ≡ true → peer < 16
 unfolding boardWithin
@@ -56,20 +33,20 @@ module _ (k : Keeper) (taken kept dropped : ℕ) (stands : ℤ → Type 0) (held
       refusal (stateOf k) c ≡ 0 → Moves k taken kept dropped stands c
   unfolding refusal causes stateOf logMoved accepted
   start-accepted board rule claim edges e =
-      let c = none (causes (stateOf k) (C.Start board rule claim edges)) (omega arith) e in
+      let c = accepted-none (stateOf k) (C.Start board rule claim edges) e in
       start-lands k taken kept dropped stands held (c .1 .0) board rule claim edges (not-false _ (c .0))
 
   pass-accepted : (ticks : ℕ) → refusal (stateOf k) (C.Pass ticks) ≡ 0 → Moves k taken kept dropped stands (C.Pass ticks)
   unfolding refusal causes stateOf logMoved accepted
   pass-accepted ticks e =
-      let c = none (causes (stateOf k) (C.Pass ticks)) (omega arith) e in
+      let c = accepted-none (stateOf k) (C.Pass ticks) e in
       let range = both (bothInRange (widened (k .claim) ticks (k .edges))) (leb (k .ticks + ticks) mostTicks) (not-false _ (c .1 .1 .0)) in
       pass-lands k taken kept dropped stands held (not-false _ (c .1 .0)) ticks (range .0) (leb-true _ _ (range .1))
 
   request-accepted : (peer : ℕ) → refusal (stateOf k) (C.Request peer) ≡ 0 → Moves k taken kept dropped stands (C.Request peer)
   unfolding refusal causes stateOf logMoved accepted
   request-accepted peer e =
-      let c = none (causes (stateOf k) (C.Request peer)) (omega arith) e in
+      let c = accepted-none (stateOf k) (C.Request peer) e in
       request-lands k taken kept dropped stands held (not-false _ (c .1 .0)) peer (small peer (not-false _ (c .0)))
       (eqb-false peer (k .board) (c .1 .1 .0))
       (c .1 .1 .1 .0)
@@ -79,7 +56,7 @@ module _ (k : Keeper) (taken kept dropped : ℕ) (stands : ℤ → Type 0) (held
       refusal (stateOf k) c ≡ 0 → Moves k taken kept dropped stands c
   unfolding refusal causes stateOf
   reply-accepted peer tag reply e =
-      let c = none (causes (stateOf k) (C.Reply peer tag reply)) (omega arith) e in
+      let c = accepted-none (stateOf k) (C.Reply peer tag reply) e in
       let limits = both (boardWithin peer && tagWithin tag) (edgesWithin reply) (not-false _ (c .0)) in
       let answers : Answers k peer reply =
       record {
@@ -94,7 +71,7 @@ module _ (k : Keeper) (taken kept dropped : ℕ) (stands : ℤ → Type 0) (held
   drop-accepted : (peer : ℕ) → refusal (stateOf k) (C.Drop peer) ≡ 0 → Moves k taken kept dropped stands (C.Drop peer)
   unfolding refusal causes stateOf logMoved accepted
   drop-accepted peer e =
-      let c = none (causes (stateOf k) (C.Drop peer)) (omega arith) e in
+      let c = accepted-none (stateOf k) (C.Drop peer) e in
       let before = not-false _ (c .1 .0) in
       ended-lands k taken kept dropped stands held before peer (small peer (not-false _ (c .0))) (not-false _ (c .1 .1 .1 .0)) (k .edges) (k .conflicts) taken kept (dropped + 1)
       (counts k before .edges)

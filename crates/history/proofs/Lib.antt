@@ -6,3 +6,4 @@ pub mod Replies
 pub mod Commands
 pub mod Lines
 pub mod Theorem
+pub mod Witness

@@ -2,3 +2,4 @@
 pub mod Log
 pub mod Course
 pub mod Demand3
+pub mod Witness

@@ -79,11 +79,21 @@ pub narrowed-inside : (b edges : Interval) (m : ℤ) → Holds (narrowed b edges
 unfolding narrowed
 narrowed-inside b edges m h = meet b edges m .1 h .1
 
--- one adopted under mm is never wider than the edges were
+-- one is adopted under mm exactly if the new edges are no wider than the old ones
 pub adopted-no-wider : (claim w : ℕ) (reply edges : Interval) → noWider claim w reply edges ≡ true
     → (adopted claim w reply .upper -ℤ adopted claim w reply .lower) ≤ℤ (edges .upper -ℤ edges .lower)
 unfolding adopted noWider
 adopted-no-wider claim w reply edges e =
+    let far = w * longest claim in
+    let lower = reply .lower -ℤ pos far in
+    let upper = reply .upper +ℤ pos far in
+    let width = reply .upper -ℤ reply .lower in
+    omega (ints, dif upper lower, sum (reply .upper) (pos far), dif (reply .lower) (pos far), dif (reply .upper) (reply .lower), sum width (pos (2 * far)), dif (edges .upper) (edges .lower))
+
+pub no-wider-adopted : (claim w : ℕ) (reply edges : Interval)
+    → (adopted claim w reply .upper -ℤ adopted claim w reply .lower) ≤ℤ (edges .upper -ℤ edges .lower) → noWider claim w reply edges ≡ true
+unfolding adopted noWider
+no-wider-adopted claim w reply edges h =
     let far = w * longest claim in
     let lower = reply .lower -ℤ pos far in
     let upper = reply .upper +ℤ pos far in

@@ -1,5 +1,5 @@
 -- The rules as sets of moments: what a pass makes of the moments within the edges, and what a reply leaves of them. Demand 3 rests on these
--- laws, and a rule with another meaning breaks them.
+-- laws.
 use mathlib.Core.Path.{_≡_}
 use mathlib.Core.Bool.{true, false}
 use Prim.Native.Nat.{ℕ, _-_, _*_, _≤_, max}
@@ -48,6 +48,31 @@ passed-reached claim n edges m order h =
       most-gained = omega ints;
       sum = omega (ints, sum (m -ℤ pos over) (pos over));
     }
+
+-- A bracket holds the moments that lie in the reply's edges or up to w longest ticks after them.
+pub bracket-reached : (claim w : ℕ) (reply : Interval) (m : ℤ) → reply .lower ≤ℤ reply .upper → Holds (bracket claim w reply) m → Came reply 0 (w * longest claim) m
+unfolding bracket
+bracket-reached claim w reply m order h =
+    let past = m -ℤ reply .upper in
+    let over : ℕ = up past - dn past in
+    let upper = sum (reply .upper) (pos (w * longest claim)) in
+    let by = dif m (reply .upper) in
+    let from = dif m (pos over) in
+    record {
+      moment = m -ℤ pos over;
+      gained = over;
+      within = omega ints;
+      least-gained = omega arith;
+      most-gained = omega ints;
+      sum = omega (ints, sum (m -ℤ pos over) (pos over));
+    }
+
+pub bracket-within : (claim w : ℕ) (reply : Interval) (m : ℤ) → Came reply 0 (w * longest claim) m → Holds (bracket claim w reply) m
+unfolding bracket
+bracket-within claim w reply m c =
+    let within = c .within in
+    let same = c .sum in
+    omega (ints, sum (reply .upper) (pos (w * longest claim)), sum (c .moment) (pos (c .gained)), c .most-gained)
 
 -- nothing lies in a bracket and in edges that conflict with it
 pub none-in-both : (b edges : Interval) (m : ℤ) → conflicting b edges ≡ true → Holds b m → Holds edges m → ⊥

@@ -38,7 +38,7 @@ mostRequests = 16777215
 unfoldable pub bitOf : ℕ → ℕ → Bool
 bitOf mask peer = eqb (mask / 2 ^ peer % 2) 1
 
--- of the sixteen boards, all of which a test holds; how many
+-- a test holds of every number below n; of how many of them it holds
 unfoldable pub allBelow : ℕ → (ℕ → Bool) → Bool
 allBelow zero test = true
 allBelow (suc n) test = allBelow n test && test n
@@ -83,7 +83,7 @@ countsAsStarted k =
     && (allBelow 16 (peerKept k)
     && allBelow 16 (λ p. allBelow p (tagsApart k p))))))))))
 
--- The values of a keeper that is handed in.
+-- The values of a keeper that is handed in: it has started only if it counts as started.
 unfoldable pub stateOf : Keeper → State
 stateOf k =
     record {

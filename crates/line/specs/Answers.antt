@@ -17,7 +17,7 @@ use Rattle.keeper.specs.declared.Answer.the-variants as A
 unfoldable pub pair : Interval → List ℕ
 pair edges = bytes "(" ++ signedDigits (edges .lower) ++ bytes " " ++ signedDigits (edges .upper) ++ bytes ")"
 
--- 'WORD PEER (LOWER UPPER))', after the bracket and the word
+-- '(WORD PEER (LOWER UPPER))', where `word` is the bracket, the word and a space
 unfoldable pub peerLine : List ℕ → ℕ → Interval → List ℕ
 peerLine word peer edges = word ++ digits peer ++ bytes " " ++ pair edges ++ bytes ")"
 

@@ -36,7 +36,7 @@ numberAfter k line room = choose (ltb room leastOutput) (λ _. 10) (λ _. number
 unfoldable pub keeperAfter : Keeper → List ℕ → ℕ → Keeper
 keeperAfter k line room = choose (ltb room leastOutput) (λ _. k) (λ _. answered k line .keeper)
 
--- An answer's line was written at the front of an output: 'each line written ends in LF' (10), and 'output beyond the line written is never
+-- An answer's line was written at the front of an output: 'each line written ends in LF' (byte 10), and 'output beyond the line written is never
 -- touched'. n is the length written.
 pub record Wrote (a : Answer) (k : Keeper) (before after : List ℕ) (n : ℕ) : Type 0 where
   pub bytes : List ℕ
