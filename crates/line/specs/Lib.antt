@@ -2,3 +2,4 @@
 pub mod Answers
 pub mod Call
 pub mod Examples
+pub mod Writing

@@ -1,1 +1,2 @@
-// What a call with a line does, as definitions: specs/Answers.antt and specs/Call.antt.
+// What a call with a line does: specs/Answers.antt and specs/Call.antt. The writer of an answer's line.
+mod write;
