@@ -5,3 +5,9 @@ pub mod Edges
 pub mod Causes
 pub mod Sets
 pub mod Outcomes
+pub mod Listing
+pub mod PeerLaws
+pub mod Clauses
+pub mod CallLaws
+pub mod EdgeLaws
+pub mod SettlingLaws

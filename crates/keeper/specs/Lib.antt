@@ -3,3 +3,5 @@ pub mod Rules
 pub mod State
 pub mod Refusals
 pub mod Apply
+pub mod Numbers
+pub mod Settling

@@ -2,6 +2,13 @@
 use command::Rule;
 use moment::Interval;
 
+pub mod calls;
+mod peers;
+mod replies;
+mod rules;
+mod started;
+mod steps;
+
 // Of each other board (a peer, 0..15): its bit of `waiting` is set while a request to it waits, with the request's tag and the tick
 // count when it was sent; a peer with none waiting holds 0 for both.
 pub struct Keeper {

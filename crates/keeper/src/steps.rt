@@ -1,0 +1,89 @@
+// What an accepted command changes in a keeper. The calls test before they step, so each of these may ask for what was tested.
+use crate::Answer;
+use crate::Keeper;
+use crate::Outcome;
+use command::Rule;
+use moment::Interval;
+ghost use mathlib.Core.Path.{_≡_};
+ghost use mathlib.Core.Bool.{true, false};
+ghost use Prim.Native.Nat.{_+_, _≤_, _^_};
+ghost use Rattle.keeper.specs.State.{bitOf};
+ghost use Rattle.keeper.specs.Apply.{outcomeOf, begun, asked, at, ended};
+ghost use Rattle.keeper.specs.declared.Answer.the-variants.{Refused};
+
+// A refusal: the keeper stays as it was.
+pub(crate) fn refused(keeper: Keeper, number: u8) -> Outcome
+    ensures { λ r. ⌜ r ≡ outcomeOf (Refused number) keeper ⌝ }
+{
+    Outcome {
+        answer: Answer::Refused(number),
+        keeper,
+    }
+}
+
+// A keeper at its start: all but what the command sets is as in a fresh one.
+pub(crate) fn begun_with(board: u8, rule: Rule, claim: u16, edges: Interval) -> Keeper
+    ensures { λ r. ⌜ r ≡ begun board rule claim edges ⌝ }
+{
+    Keeper {
+        started: true,
+        board,
+        rule,
+        claim,
+        edges,
+        ticks: 0,
+        requests: 0,
+        conflicts: 0,
+        waiting: 0,
+        tags: [0u32; 16],
+        sent_at: [0u64; 16],
+    }
+}
+
+// The mask of one peer.
+fn bit(peer: u8) -> u16
+    requires { ⌜ peer ≤ 15 ⌝ }
+    ensures { λ r. ⌜ r ≡ 2 ^ peer ⌝ }
+{
+    1u16 << peer
+}
+
+// The keeper with a request to the peer sent now.
+pub(crate) fn asked_of(keeper: Keeper, peer: u8) -> Keeper
+    requires { ⌜ peer ≤ 15 ⌝ }
+    requires { ⌜ keeper .requests ≤ 16777214 ⌝ }
+    requires { ⌜ bitOf (keeper .waiting) peer ≡ false ⌝ }
+    ensures { λ r. ⌜ r ≡ asked keeper peer ⌝ }
+{
+    let mut next = keeper;
+    next.requests = keeper.requests + 1;
+    next.waiting = keeper.waiting + bit(peer);
+    next.tags[peer as usize] = keeper.requests + 1;
+    next.sent_at[peer as usize] = keeper.ticks;
+    next
+}
+
+// The keeper with the peer's request ended.
+pub(crate) fn ended_with(keeper: Keeper, peer: u8, edges: Interval, conflicts: u32) -> Keeper
+    requires { ⌜ peer ≤ 15 ⌝ }
+    requires { ⌜ bitOf (keeper .waiting) peer ≡ true ⌝ }
+    ensures { λ r. ⌜ r ≡ ended keeper peer edges conflicts ⌝ }
+{
+    let mut next = keeper;
+    next.edges = edges;
+    next.conflicts = conflicts;
+    next.waiting = keeper.waiting - bit(peer);
+    next.tags[peer as usize] = 0;
+    next.sent_at[peer as usize] = 0;
+    next
+}
+
+// The keeper with its edges and ticks moved on.
+pub(crate) fn moved_to(keeper: Keeper, edges: Interval, ticks: u64) -> Keeper
+    ensures { λ r. ⌜ r ≡ at keeper edges ticks ⌝ }
+{
+    let mut next = keeper;
+    next.edges = edges;
+    next.ticks = ticks;
+    next
+}
