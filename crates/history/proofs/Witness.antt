@@ -3,7 +3,6 @@
 use mathlib.Core.Path.{_≡_, refl}
 use lib.IntN.{pos}
 use lib.Signed.{leZ-yes}
-use Rattle.moment.specs.Moment.{Holds}
 use Rattle.text.specs.Words.{startsWith, wordAt}
 use Rattle.numeral.specs.Reading.{run, valueFrom, wellFormed, numberIn, numberAt, plain, negated, signedFrom, signedAt}
 use Rattle.moment.specs.Moment.{inRange, largerOf, smallerOf, shareOne}

@@ -1,5 +1,5 @@
 -- The list of the waiting peers is answered only by a keeper that counts as started.
-use mathlib.Core.Path.{_≡_, refl, sym, ap, _∙_}
+use mathlib.Core.Path.{_≡_, refl, ap}
 use mathlib.Core.Bool.{Bool, true, false}
 use Prim.Native.Nat.{ℕ, _+_}
 use native.Mathlib.Omega.{arith}
@@ -40,9 +40,11 @@ reply-other k peer tag reply = by-conflict (replyConflicts (stateOf k) peer repl
     by-width : (t : Bool) (a b : Interval) (x y : Keeper) → isList (choose t (λ _. outcomeOf (A.Taken peer a) x) (λ _. outcomeOf (A.Kept peer b) y) .answer) ≡ false
     by-width true a b x y = refl
     by-width false a b x y = refl
+
     by-rule : (r : Rule) → isList (replied r k peer reply .answer) ≡ false
     by-rule Im = refl
     by-rule Mm = by-width (adopts (stateOf k) peer reply) _ _ _ _
+
     by-conflict : (t : Bool) → isList (choose t (λ _. outcomeOf (A.Conflict peer (k .edges)) (ended k peer (k .edges) (k .conflicts + 1))) (λ _. replied (k .rule) k peer reply) .answer) ≡ false
     by-conflict true = refl
     by-conflict false = by-rule (k .rule)

@@ -2,3 +2,4 @@
 pub mod Marked
 pub mod PutsLaws
 pub mod WaitersLaws
+pub mod ResponseLaws

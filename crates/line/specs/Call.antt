@@ -50,3 +50,4 @@ pub record Called (k : Keeper) (line before : List ℕ) (number : ℕ) (next : K
   pub keeper-is : next ≡ keeperAfter k line (length before)
   pub untouched : length before < leastOutput → (after ≡ before) × (n ≡ 0)
   pub written : leastOutput ≤ length before → Wrote (answered k line .answer) (answered k line .keeper) before after n
+  pub within : n ≤ length before

@@ -1,2 +1,87 @@
-// What a call with a line does: specs/Answers.antt and specs/Call.antt. The writer of an answer's line.
+// One call with a line: a keeper by value, a line of any bytes, and a lent output of any length.
+use crate::write::write_answer;
+use command::Reading;
+use keeper::Answer;
+use keeper::Keeper;
+use keeper::Outcome;
+use keeper::calls::apply_command;
+use reader::read_command;
+
 mod write;
+
+ghost use mathlib.Core.Path.{_≡_};
+ghost use Rattle.keeper.specs.Apply.{numberOf};
+ghost use Rattle.line.specs.Call.{answered, Called};
+
+// The least output that a line's answer is written to.
+pub const LEAST_OUTPUT: usize = 256;
+
+// The number returned, the keeper handed back, and the length written.
+pub struct Response {
+    pub number: u8,
+    pub keeper: Keeper,
+    pub length: usize,
+}
+
+fn number_of(answer: Answer) -> u8
+    ensures { λ r. ⌜ r ≡ numberOf answer ⌝ }
+{
+    match answer {
+        Answer::Started(_) => 0,
+        Answer::At(_, _) => 0,
+        Answer::Sent(_, _) => 0,
+        Answer::Taken(_, _) => 0,
+        Answer::Kept(_, _) => 0,
+        Answer::Conflict(_, _) => 0,
+        Answer::Dropped(_) => 0,
+        Answer::Time {
+            edges: _,
+            centre: _,
+            error: _,
+            conflicts: _,
+            waiting: _,
+        } => 0,
+        Answer::Waiting => 0,
+        Answer::Refused(n) => n,
+    }
+}
+
+// What is answered to a line, and the keeper after it.
+fn answer_to(keeper: Keeper, line: &[u8]) -> Outcome
+    ensures { λ r. ⌜ r ≡ answered keeper (now (line .entry)) ⌝ }
+{
+    let reading = read_command(line);
+    match reading {
+        Reading::Accepted(c) => apply_command(keeper, c),
+        Reading::NoShape => Outcome {
+            answer: Answer::Refused(1),
+            keeper,
+        },
+        Reading::OutsideLimits => Outcome {
+            answer: Answer::Refused(2),
+            keeper,
+        },
+    }
+}
+
+// Refusal 10 comes before anything else is looked at, and touches no byte.
+pub fn call(keeper: Keeper, line: &[u8], out: &mut [u8]) -> Response
+    ensures { λ r. ⌜ Called keeper (now (line .entry)) (now (out .entry)) (r .number) (r .keeper) (now (out .exit)) (r .length) ⌝ }
+{
+    if out.len() < LEAST_OUTPUT {
+        return Response {
+            number: 10,
+            keeper,
+            length: 0,
+        };
+    }
+    let outcome = answer_to(keeper, line);
+    let answer = outcome.answer;
+    let next = outcome.keeper;
+    let length = write_answer(out, answer, next);
+    Response {
+        number: number_of(answer),
+        keeper: next,
+        length,
+    }
+}

@@ -1,0 +1,7 @@
+// Reads lines from standard input and writes one line for each to standard output. Its stored run is document 01's whole run.
+use libc::STDIN_FILENO;
+use libc::STDOUT_FILENO;
+
+fn main() {
+    serve::serve(STDIN_FILENO, STDOUT_FILENO);
+}

@@ -1,0 +1,30 @@
+-- Laws of the whole call: the list of the waiting peers is answered only by a keeper that counts as started, and what is written lies within
+-- the output.
+use mathlib.Core.Path.{_≡_, ap}
+use mathlib.Core.Bool.{true}
+use mathlib.Core.List.{List, _∷_}
+use Prim.Native.Nat.{ℕ, _+_, _≤_}
+use native.Mathlib.Omega.{arith}
+use lib.ListN.{length, drop, length-append}
+use Rattle.command.specs.declared.Reading.{Reading}
+use Rattle.command.specs.declared.Reading.the-variants.{Accepted, NoShape, OutsideLimits}
+use Rattle.reader.specs.Reading.{readingOf}
+use Rattle.keeper.specs.State.{countsAsStarted}
+use Rattle.keeper.specs.declared.Keeper.{Keeper}
+use Rattle.keeper.specs.declared.Answer.{Answer}
+use Rattle.keeper.specs.declared.Answer.the-variants as A
+use Rattle.keeper.proofs.Listing.{listed-started}
+use Rattle.line.specs.Call.{byReading, answered, Wrote}
+
+pub listed : (k : Keeper) (line : List ℕ) → answered k line .answer ≡ A.Waiting → countsAsStarted (answered k line .keeper) ≡ true
+unfolding answered
+listed k line h = go (readingOf line) h
+  where
+    go : (r : Reading) → byReading r k .answer ≡ A.Waiting → countsAsStarted (byReading r k .keeper) ≡ true
+    go (Accepted c) e = listed-started k c e
+    go NoShape e = absurd (let z : _≡_ {A = ℕ} 0 1 = cc in omega arith)
+    go OutsideLimits e = absurd (let z : _≡_ {A = ℕ} 0 1 = cc in omega arith)
+
+pub wrote-within : {a : Answer} {k : Keeper} {before after : List ℕ} {n : ℕ} → Wrote a k before after n → length after ≡ length before → n ≤ length before
+wrote-within {before = before} w same =
+    omega (arith, w .written, ap length (w .output), length-append (w .bytes) (10 ∷ drop (length (w .bytes) + 1) before))

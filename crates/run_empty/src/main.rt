@@ -1,0 +1,7 @@
+// boardtime on a stored run: no input.
+use libc::STDIN_FILENO;
+use libc::STDOUT_FILENO;
+
+fn main() {
+    serve::serve(STDIN_FILENO, STDOUT_FILENO);
+}
