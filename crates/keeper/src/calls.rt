@@ -35,6 +35,7 @@ ghost use Rattle.keeper.specs.Apply.{apply};
 pub const LONGEST_WAIT: u64 = 3600000;
 
 impl Keeper {
+    // A fresh keeper isn't started, its rule is im, nothing waits and every number is 0.
     pub fn fresh() -> Keeper
         ensures { λ r. ⌜ r ≡ fresh ⌝ }
     {
@@ -53,6 +54,7 @@ impl Keeper {
         }
     }
 
+    // A keeper that was handed in and does not count as started may be started.
     pub fn start(self, board: u8, rule: Rule, claim: u16, edges: Interval) -> Outcome
         ensures { λ r. ⌜ r ≡ apply self (C.Start board rule claim edges) ⌝ }
     {
@@ -74,6 +76,7 @@ impl Keeper {
         }
     }
 
+    // Refusal 5 is for an edge that would leave the range, and for ticks that would pass their most.
     pub fn pass(self, ticks: u32) -> Outcome
         ensures { λ r. ⌜ r ≡ apply self (C.Pass ticks) ⌝ }
     {
@@ -96,6 +99,7 @@ impl Keeper {
         }
     }
 
+    // The tag is the number of requests sent so far, counting this one, so no two requests share a tag.
     pub fn request(self, peer: u8) -> Outcome
         ensures { λ r. ⌜ r ≡ apply self (C.Request peer) ⌝ }
     {
@@ -120,6 +124,7 @@ impl Keeper {
         }
     }
 
+    // A reply without its request, or with another tag, is refused before its edges are used.
     pub fn reply(self, peer: u8, tag: u32, edges: Interval) -> Outcome
         ensures { λ r. ⌜ r ≡ apply self (C.Reply peer tag edges) ⌝ }
     {
@@ -151,6 +156,7 @@ impl Keeper {
         settle(self, peer, edges, w as u32)
     }
 
+    // Gives a request up: a late reply to it finds no request, or one with another tag.
     pub fn drop(self, peer: u8) -> Outcome
         ensures { λ r. ⌜ r ≡ apply self (C.Drop peer) ⌝ }
     {
@@ -172,6 +178,7 @@ impl Keeper {
         }
     }
 
+    // Nothing changes. The edges of a keeper that counts as started are in the range, so their sum fits.
     pub fn read(self) -> Outcome
         ensures { λ r. ⌜ r ≡ apply self C.Read ⌝ }
     {
@@ -191,6 +198,7 @@ impl Keeper {
         }
     }
 
+    // Nothing changes: the waiting peers and their tags are read from the keeper that is handed back.
     pub fn waiting(self) -> Outcome
         ensures { λ r. ⌜ r ≡ apply self C.Waiting ⌝ }
     {
