@@ -5,8 +5,9 @@ use Prim.Native.Nat.{ℕ, _+_}
 use native.Mathlib.Numerals.{add-one}
 use lib.Dec.{leb, eqb}
 use lib.ListN.{getD}
-use Rattle.keeper.specs.State.{bitOf, peerKept, allBelow}
+use Rattle.keeper.specs.State.{bitOf, peerKept, tagsApart, allBelow}
 use Rattle.keeper.specs.declared.Keeper.{Keeper}
+use Rattle.keeper.proofs.Bits.{all-made}
 
 module _ (k : Keeper) (p : ℕ) where
   pub kept-waiting : bitOf (k .waiting) p ≡ true
@@ -22,3 +23,8 @@ module _ (k : Keeper) (p : ℕ) where
 pub all-more : (n : ℕ) (test : ℕ → Bool) → allBelow n test ≡ true → test n ≡ true → allBelow (n + 1) test ≡ true
 unfolding allBelow
 all-more n test h e = rw (add-one n, h, e)
+
+-- a peer with none waiting shares no tag
+pub idle-apart : (k : Keeper) (p n : ℕ) → bitOf (k .waiting) p ≡ false → allBelow n (tagsApart k p) ≡ true
+unfolding tagsApart
+idle-apart k p n e = all-made n (tagsApart k p) (λ q l. rw e)

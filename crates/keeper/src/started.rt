@@ -44,13 +44,23 @@ fn tag_apart(keeper: Keeper, first: u8) -> bool
     true
 }
 
+// A peer with none waiting shares no tag, and only a waiting one is compared with those before it.
+fn shares_none(keeper: Keeper, first: u8) -> bool
+    ensures { λ r. ⌜ r ≡ allBelow first (tagsApart keeper first) ⌝ }
+{
+    if !bit_of(keeper.waiting, first) {
+        return true;
+    }
+    tag_apart(keeper, first)
+}
+
 // No two peers share a tag.
 fn all_apart(keeper: Keeper) -> bool
     ensures { λ r. ⌜ r ≡ allBelow 16 (λ p. allBelow p (tagsApart keeper p)) ⌝ }
 {
     let mut p: u8 = 0;
     while p < PEERS {
-        if !tag_apart(keeper, p) {
+        if !shares_none(keeper, p) {
             return false;
         }
         p += 1;

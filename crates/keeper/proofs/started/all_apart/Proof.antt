@@ -21,13 +21,13 @@ loop-holds : tie.Need-loop-holds Inv-loop μ-loop
 unfolding allBelow
 loop-holds c = (omega arith, refl)
 
-tag-apart-requires : tie.Need-tag-apart-requires Inv-loop μ-loop
-tag-apart-requires c κs = search needs
+shares-none-requires : tie.Need-shares-none-requires Inv-loop μ-loop
+shares-none-requires c κs = search needs
 
 returns : tie.Need-returns Inv-loop μ-loop
 returns c =
     let x = c .before .before .before .before .args in
-    sym (all-broken 16 (λ n. allBelow n (tagsApart (x .keeper) n)) (c .before .before .before .loop .p) (c .before .before .loop-test .taken) (sym (c .before .tag-apart .ensures) ∙ not-true _ (c .if1 .taken)))
+    sym (all-broken 16 (λ n. allBelow n (tagsApart (x .keeper) n)) (c .before .before .before .loop .p) (c .before .before .loop-test .taken) (sym (c .before .shares-none .ensures) ∙ not-true _ (c .if1 .taken)))
 
 add-p : tie.Need-add-p Inv-loop μ-loop
 add-p c = omega arith
@@ -38,7 +38,7 @@ loop-less c = omega arith
 loop-again : tie.Need-loop-again Inv-loop μ-loop
 loop-again c =
     let x = c .before .before .before .before .args in
-    (omega arith, all-more (c .before .before .before .loop .p) (λ n. allBelow n (tagsApart (x .keeper) n)) (c .before .before .before .loop .inv .1) (sym (c .before .tag-apart .ensures) ∙ not-false _ (c .if1 .left)))
+    (omega arith, all-more (c .before .before .before .loop .p) (λ n. allBelow n (tagsApart (x .keeper) n)) (c .before .before .before .loop .inv .1) (sym (c .before .shares-none .ensures) ∙ not-false _ (c .if1 .left)))
 
 returns-2 : tie.Need-returns-2 Inv-loop μ-loop
 returns-2 c =
@@ -49,4 +49,4 @@ returns-2 c =
 pub all-apart-spec : {M : Type 1} → statement M
 all-apart-spec =
     tie.close
-    (tie.spec Inv-loop μ-loop loop-holds tag-apart-requires returns add-p loop-less loop-again returns-2)
+    (tie.spec Inv-loop μ-loop loop-holds shares-none-requires returns add-p loop-less loop-again returns-2)
