@@ -9,7 +9,7 @@ use Rattle.keeper.specs.State.{stateOf}
 use Rattle.keeper.specs.Refusals.{refusal, first, causes}
 use Rattle.keeper.specs.Apply.{accepted}
 use Rattle.keeper.proofs.CallLaws.{apply-refused, apply-accepted}
-use Rattle.keeper.proofs.Clauses.{clauses}
+use Rattle.keeper.proofs.Kept.{clauses}
 use Rattle.keeper.proofs.EdgeLaws.{placed-within, placed-outside}
 use Rattle.keeper.proofs.Keeper.pass.Statement.{statement}
 use Rattle.keeper.proofs.Keeper.pass.Tie as tie

@@ -7,7 +7,8 @@ use Rattle.command.proofs.LimitLaws.{board-bound}
 use Rattle.keeper.specs.State.{stateOf}
 use Rattle.keeper.specs.Refusals.{refusal, first, causes}
 use Rattle.keeper.proofs.CallLaws.{apply-refused}
-use Rattle.keeper.proofs.Clauses.{clauses, sent-by}
+use Rattle.keeper.proofs.Kept.{clauses}
+use Rattle.keeper.proofs.Clauses.{sent-by}
 use Rattle.keeper.proofs.SettlingLaws.{apply-found}
 use Rattle.keeper.proofs.Keeper.reply.Statement.{statement}
 use Rattle.keeper.proofs.Keeper.reply.Tie as tie

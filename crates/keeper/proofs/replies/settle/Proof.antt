@@ -4,7 +4,7 @@ use borrow.Author.Tests.{not-true, not-false}
 use mathlib.Core.Path.{sym, _∙_}
 use native.Mathlib.Omega.{arith}
 use Rattle.command.specs.declared.Rule.the-variants.{Im, Mm}
-use Rattle.keeper.proofs.Clauses.{clauses}
+use Rattle.keeper.proofs.Kept.{clauses}
 use Rattle.keeper.proofs.SettlingLaws.{settled-clash, settled-by, im-takes}
 use Rattle.keeper.proofs.replies.settle.Statement.{statement}
 use Rattle.keeper.proofs.replies.settle.Tie as tie

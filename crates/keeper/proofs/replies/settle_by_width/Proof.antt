@@ -2,7 +2,7 @@
 use borrow.Author.Needs.{needs}
 use borrow.Author.Tests.{not-true, not-false}
 use mathlib.Core.Path.{sym, _∙_}
-use Rattle.keeper.proofs.Clauses.{clauses}
+use Rattle.keeper.proofs.Kept.{clauses}
 use Rattle.keeper.proofs.EdgeLaws.{placed-within, placed-outside}
 use Rattle.keeper.proofs.SettlingLaws.{mm-keeps, mm-refuses, mm-takes}
 use Rattle.keeper.proofs.replies.settle_by_width.Statement.{statement}
