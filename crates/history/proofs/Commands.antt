@@ -11,7 +11,7 @@ use Rattle.command.specs.Limits.{boardWithin, tagWithin, edgesWithin}
 use Rattle.command.specs.declared.Rule.{Rule}
 use Rattle.command.specs.declared.Command.{Command}
 use Rattle.command.specs.declared.Command.the-variants as C
-use Rattle.keeper.specs.Rules.{widened, bothInRange}
+use Rattle.rules.specs.Rules.{widened, bothInRange}
 use Rattle.keeper.specs.State.{stateOf, mostTicks}
 use Rattle.keeper.specs.Refusals.{causes, refusal}
 use Rattle.keeper.specs.Apply.{accepted}

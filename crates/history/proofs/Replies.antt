@@ -10,15 +10,15 @@ use Rattle.command.specs.Limits.{edgesWithin}
 use Rattle.command.specs.declared.Rule.{Rule}
 use Rattle.command.specs.declared.Rule.the-variants.{Im, Mm}
 use Rattle.command.specs.declared.Command.the-variants as C
-use Rattle.keeper.specs.Rules.{narrowed, adopted, bothInRange}
+use Rattle.rules.specs.Rules.{narrowed, adopted, bothInRange}
 use Rattle.keeper.specs.State.{bitOf, countsAsStarted, stateOf}
 use Rattle.keeper.specs.Refusals.{waited, replyBracket, replyConflicts, adopts}
 use Rattle.keeper.specs.Apply.{ended, replied, accepted}
 use Rattle.keeper.specs.declared.Keeper.{Keeper}
 use Rattle.history.specs.Log.{logEnded, logReplied, logMoved, withState}
 use Rattle.history.specs.Course.{advanced, met, repliedEvent}
-use Rattle.keeper.proofs.Edges.{narrowed-within, adopted-within}
-use Rattle.keeper.proofs.Sets.{none-in-both, met-within, met-reached, adopted-holds}
+use Rattle.rules.proofs.Edges.{narrowed-within, adopted-within}
+use Rattle.rules.proofs.Sets.{none-in-both, met-within, met-reached, adopted-holds}
 use Rattle.history.proofs.Invariant.{logOf, Kept, Lands, Moves, counts}
 use Rattle.history.proofs.Steps.{ended-lands, still-follows}
 

@@ -11,7 +11,7 @@ use lib.Seq.{getD-set-same, getD-set-other}
 use Rattle.text.specs.Words.{choose}
 use Rattle.moment.specs.declared.Interval.{Interval}
 use Rattle.command.specs.declared.Rule.{Rule}
-use Rattle.keeper.specs.Rules.{widened}
+use Rattle.rules.specs.Rules.{widened}
 use Rattle.keeper.specs.State.{bitOf, put, countsAsStarted, stateOf, fresh}
 use Rattle.keeper.specs.Apply.{begun, at, asked, ended}
 use Rattle.keeper.specs.declared.Keeper.{Keeper}

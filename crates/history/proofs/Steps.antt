@@ -9,16 +9,16 @@ use Rattle.moment.specs.declared.Interval.{Interval}
 use Rattle.command.specs.Limits.{keeps, formOf, edgesWithin}
 use Rattle.command.specs.declared.Rule.{Rule}
 use Rattle.command.specs.declared.Command.the-variants as C
-use Rattle.keeper.specs.Rules.{widened, bothInRange}
+use Rattle.rules.specs.Rules.{widened, bothInRange}
 use Rattle.keeper.specs.State.{bitOf, one, countBelow, countsAsStarted, stateOf, fresh, mostTicks, mostRequests}
 use Rattle.keeper.specs.Apply.{begun, at, asked, ended}
 use Rattle.keeper.specs.declared.Keeper.{Keeper}
 use Rattle.keeper.proofs.Bits.{bit-set, bit-cleared, count-put}
 use Rattle.history.specs.Log.{logStarted, logPassed, logAsked, logEnded, withState}
 use Rattle.history.specs.Course.{advanced, passed}
-use Rattle.keeper.proofs.Edges.{widened-within}
+use Rattle.rules.proofs.Edges.{widened-within}
 use Rattle.keeper.proofs.Kept.{begun-sized, at-sized, asked-sized, ended-sized, begun-kept, at-kept, asked-kept, ended-kept}
-use Rattle.keeper.proofs.Sets.{passed-within, passed-reached}
+use Rattle.rules.proofs.Sets.{passed-within, passed-reached}
 use Rattle.history.proofs.States.{begun-state, at-state, asked-state, ended-state}
 use Rattle.history.proofs.Invariant.{logOf, Follows, Kept, Lands, Counts, counts, clash}
 

@@ -8,7 +8,7 @@ use Rattle.numeral.specs.Reading.{run, valueFrom, wellFormed, numberIn, numberA
 use Rattle.moment.specs.Moment.{inRange, largerOf, smallerOf, shareOne}
 use Rattle.command.specs.Limits.{boardWithin, claimWithin, ticksWithin, tagWithin, edgesWithin, limited}
 use Rattle.reader.specs.Reading.{ruleAt, endAt, readParts, parseAs, parse, shapedFrom, readingOf}
-use Rattle.keeper.specs.Rules.{widened, bracket, conflicting, narrowed, noWider, adopted, bothInRange}
+use Rattle.rules.specs.Rules.{widened, bracket, conflicting, narrowed, noWider, adopted, bothInRange}
 use Rattle.keeper.specs.State.{put, countBelow}
 use Rattle.keeper.specs.Refusals.{first, replyBracket, replyConflicts, adopts, causes, refusal}
 use Rattle.history.specs.Log.{logStart, logStarted, logAsked, logEnded, logReplied, logMoved, accepting, logged, logAfter}

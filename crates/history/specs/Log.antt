@@ -14,7 +14,7 @@ use Rattle.command.specs.declared.Command.the-variants as C
 use Rattle.command.specs.declared.Reading.{Reading}
 use Rattle.command.specs.declared.Reading.the-variants.{Accepted, NoShape, OutsideLimits}
 use Rattle.reader.specs.Reading.{readingOf}
-use Rattle.keeper.specs.Rules.{widened, narrowed, adopted}
+use Rattle.rules.specs.Rules.{widened, narrowed, adopted}
 use Rattle.keeper.specs.State.{State, put}
 use Rattle.keeper.specs.Refusals.{refusal, waited, replyBracket, replyConflicts, adopts}
 use Rattle.line.specs.Call.{leastOutput}

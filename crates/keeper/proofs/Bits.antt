@@ -1,6 +1,6 @@
 -- Laws of the mask of waiting peers, bit by bit, and of tests over the sixteen peers.
 use mathlib.Core.Path.{_≡_, refl, sym, ap, _∙_}
-use mathlib.Core.Bool.{Bool, true, false, _&&_}
+use mathlib.Core.Bool.{Bool, true, false}
 use Prim.Native.Nat.{ℕ, zero, suc, _+_, _-_, _/_, _%_, _^_, _<_, _≤_}
 use native.Mathlib.Nat.{pow-suc, div-one}
 use native.Mathlib.Omega.{arith}
@@ -8,20 +8,9 @@ use borrow.Author.Tests.{eq-eqb, ne-eqb, eqb-true, eqb-false}
 use lib.Dec.{eqb, eqb·suc-suc}
 use lib.Count.{ones, ones-step, ones-le}
 use lib.Pow.{shr-shr}
+pub use Rattle.rules.proofs.Tests.{both, join, clash}
 use Rattle.text.specs.Words.{choose}
 use Rattle.keeper.specs.State.{bitOf, allBelow, countBelow, one, put}
-
--- ---- tests that are joined
-
-pub both : (p q : Bool) → p && q ≡ true → (p ≡ true) × (q ≡ true)
-both true q h = (refl, h)
-both false q h = absurd (let k : _≡_ {A = ℕ} 0 1 = cc in omega arith)
-
-pub join : {p q : Bool} → p ≡ true → q ≡ true → p && q ≡ true
-join d e = rw (d, e)
-
-pub clash : {t : Bool} → t ≡ true → t ≡ false → ⊥
-clash d e = let k : _≡_ {A = ℕ} 0 1 = cc in omega arith
 
 -- ---- one bit
 

@@ -16,7 +16,7 @@ use Rattle.moment.proofs.Integers.{ints, by-test, sum, dif, half}
 use Rattle.moment.proofs.Intervals.{range-read, moved-to, moved-outside}
 use Rattle.command.specs.Limits.{edgesWithin}
 use Rattle.command.specs.declared.accept.Bounds.the-variants as B
-use Rattle.keeper.specs.Rules.{bothInRange, centre, errorOf}
+use Rattle.rules.specs.Rules.{bothInRange, centre, errorOf}
 use Rattle.keeper.specs.Settling.{placed}
 use Rattle.keeper.proofs.Clauses.{both}
 

@@ -1,9 +1,7 @@
 -- Laws about the definitions of specs/.
 pub mod Bits
 pub mod Kept
-pub mod Edges
 pub mod Causes
-pub mod Sets
 pub mod Outcomes
 pub mod Listing
 pub mod PeerLaws

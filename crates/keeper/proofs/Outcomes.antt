@@ -9,7 +9,7 @@ use Rattle.moment.specs.declared.Interval.{Interval}
 use Rattle.command.specs.declared.Rule.{Rule}
 use Rattle.command.specs.declared.Rule.the-variants.{Im, Mm}
 use Rattle.command.specs.declared.Command.the-variants as C
-use Rattle.keeper.specs.Rules.{narrowed, adopted, widened}
+use Rattle.rules.specs.Rules.{narrowed, adopted, widened}
 use Rattle.keeper.specs.State.{stateOf}
 use Rattle.keeper.specs.Refusals.{waited, replyBracket, replyConflicts, adopts}
 use Rattle.keeper.specs.Apply.{outcomeOf, at, ended, replied, accepted}

@@ -11,7 +11,7 @@ use Rattle.command.specs.Limits.{keeps, formOf}
 use Rattle.command.specs.declared.Rule.{Rule}
 use Rattle.command.specs.declared.Rule.the-variants.{Im, Mm}
 use Rattle.command.specs.declared.Command.the-variants as C
-use Rattle.keeper.specs.Rules.{bracket, conflicting, narrowed, noWider, adopted, bothInRange}
+use Rattle.rules.specs.Rules.{bracket, conflicting, narrowed, noWider, adopted, bothInRange}
 use Rattle.keeper.specs.State.{stateOf, bitOf, countsAsStarted}
 use Rattle.keeper.specs.Refusals.{first, causes, refusal, isMm, waited, longestWait, replyBracket, replyConflicts, adopts}
 use Rattle.keeper.specs.Apply.{outcomeOf, ended, replied, accepted, apply}

@@ -9,7 +9,7 @@ use Rattle.command.specs.declared.Rule.{Rule}
 use Rattle.command.specs.declared.Rule.the-variants.{Im, Mm}
 use Rattle.command.specs.declared.Command.{Command}
 use Rattle.command.specs.declared.Command.the-variants as C
-use Rattle.keeper.specs.Rules.{widened, narrowed, adopted, told, centre, errorOf}
+use Rattle.rules.specs.Rules.{widened, narrowed, adopted, told, centre, errorOf}
 use Rattle.keeper.specs.State.{stateOf, bitOf, countBelow, fresh}
 use Rattle.keeper.specs.Refusals.{refusal, waited, replyBracket, replyConflicts, adopts}
 use Rattle.keeper.specs.declared.Keeper.{Keeper}

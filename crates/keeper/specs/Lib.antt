@@ -1,5 +1,4 @@
 -- What the contracts of `keeper` cite.
-pub mod Rules
 pub mod State
 pub mod Refusals
 pub mod Apply

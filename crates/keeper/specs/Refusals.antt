@@ -11,7 +11,7 @@ use Rattle.command.specs.declared.Rule.{Rule}
 use Rattle.command.specs.declared.Rule.the-variants.{Im, Mm}
 use Rattle.command.specs.declared.Command.{Command}
 use Rattle.command.specs.declared.Command.the-variants as C
-use Rattle.keeper.specs.Rules.{widened, bracket, conflicting, noWider, adopted, bothInRange}
+use Rattle.rules.specs.Rules.{widened, bracket, conflicting, noWider, adopted, bothInRange}
 use Rattle.keeper.specs.State.{State, mostTicks, mostRequests}
 
 -- A cause: its number, and whether it holds.

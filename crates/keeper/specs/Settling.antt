@@ -9,7 +9,7 @@ use Rattle.command.specs.declared.Rule.{Rule}
 use Rattle.command.specs.declared.Rule.the-variants.{Im, Mm}
 use Rattle.command.specs.declared.accept.Bounds.{Bounds}
 use Rattle.command.specs.declared.accept.Bounds.the-variants.{Within, Outside}
-use Rattle.keeper.specs.Rules.{adopted, bothInRange}
+use Rattle.rules.specs.Rules.{adopted, bothInRange}
 use Rattle.keeper.specs.State.{stateOf, bitOf, countsAsStarted}
 use Rattle.keeper.specs.Refusals.{waited, longestWait, replyConflicts, adopts}
 use Rattle.keeper.specs.Apply.{outcomeOf, ended, replied}

@@ -2,14 +2,14 @@
 use crate::Answer;
 use crate::Keeper;
 use crate::Outcome;
+use crate::edges::centre_of;
+use crate::edges::error_of;
+use crate::edges::widen;
 use crate::peers::bit_of;
 use crate::peers::count_of;
 use crate::peers::sent_of;
 use crate::peers::tag_of;
 use crate::replies::settle;
-use crate::rules::centre_of;
-use crate::rules::error_of;
-use crate::rules::widen;
 use crate::started::MOST_REQUESTS;
 use crate::started::MOST_TICKS;
 use crate::steps::asked_of;

@@ -3,9 +3,9 @@ use command::Rule;
 use moment::Interval;
 
 pub mod calls;
+mod edges;
 mod peers;
 mod replies;
-mod rules;
 mod started;
 mod steps;
 

@@ -2,10 +2,10 @@
 use crate::Answer;
 use crate::Keeper;
 use crate::Outcome;
-use crate::rules::adopt;
-use crate::rules::bracket_of;
-use crate::rules::narrow;
-use crate::rules::no_wider;
+use crate::edges::adopt;
+use crate::edges::bracket_of;
+use crate::edges::narrow;
+use crate::edges::no_wider;
 use crate::steps::ended_with;
 use crate::steps::refused;
 use command::Rule;

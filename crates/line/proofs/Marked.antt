@@ -6,7 +6,7 @@ use Rattle.numeral.specs.Reading.{run, valueFrom, wellFormed, numberIn, numberA
 use Rattle.moment.specs.Moment.{inRange, largerOf, smallerOf, shareOne, floorHalf}
 use Rattle.command.specs.Limits.{boardWithin, claimWithin, ticksWithin, tagWithin, edgesWithin, limited}
 use Rattle.reader.specs.Reading.{ruleAt, endAt, readParts, parseAs, parse, shapedFrom, readingOf}
-use Rattle.keeper.specs.Rules.{widened, bracket, conflicting, narrowed, noWider, adopted, bothInRange, told, centre, errorOf}
+use Rattle.rules.specs.Rules.{widened, bracket, conflicting, narrowed, noWider, adopted, bothInRange, told, centre, errorOf}
 use Rattle.keeper.specs.State.{bitOf, allBelow, countBelow, peerKept, tagsApart, countsAsStarted, stateOf, fresh}
 use Rattle.keeper.specs.Refusals.{first, replyBracket, replyConflicts, adopts, causes, refusal}
 use Rattle.keeper.specs.Apply.{begun, at, asked, ended, replied, accepted, apply}

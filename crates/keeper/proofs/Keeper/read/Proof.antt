@@ -8,7 +8,7 @@ use Rattle.keeper.specs.Refusals.{refusal, first, causes}
 use Rattle.keeper.specs.Apply.{accepted}
 use Rattle.keeper.proofs.CallLaws.{apply-refused, apply-accepted}
 use Rattle.moment.proofs.Integers.{got}
-use Rattle.keeper.specs.Rules.{told}
+use Rattle.rules.specs.Rules.{told}
 use Rattle.keeper.proofs.Kept.{clauses}
 use Rattle.keeper.proofs.Keeper.read.Statement.{statement}
 use Rattle.keeper.proofs.Keeper.read.Tie as tie

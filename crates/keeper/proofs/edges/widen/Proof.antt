@@ -1,9 +1,9 @@
--- `keeper::rules::widen` meets its contract: the two spans are those of the definition.
+-- `keeper::edges::widen` meets its contract: the two spans are those of the definition.
 use borrow.Author.Needs.{needs}
 use Rattle.moment.proofs.Integers.{got}
-use Rattle.keeper.specs.Rules.{widened}
-use Rattle.keeper.proofs.rules.widen.Statement.{statement}
-use Rattle.keeper.proofs.rules.widen.Tie as tie
+use Rattle.rules.specs.Rules.{widened}
+use Rattle.keeper.proofs.edges.widen.Statement.{statement}
+use Rattle.keeper.proofs.edges.widen.Tie as tie
 
 shortest-span-requires : tie.Need-shortest-span-requires
 shortest-span-requires c κs = search needs

@@ -12,7 +12,7 @@ use Rattle.moment.specs.Moment.{shortest, longest, Holds, shareOne}
 use Rattle.moment.specs.declared.Interval.{Interval}
 use Rattle.moment.proofs.Integers.{ints, up, dn, sum, dif}
 use Rattle.moment.proofs.Intervals.{meet, share-made}
-use Rattle.keeper.specs.Rules.{widened, bracket, conflicting, narrowed, adopted}
+use Rattle.rules.specs.Rules.{widened, bracket, conflicting, narrowed, adopted}
 
 -- a course that was within the edges is within those of a pass
 pub passed-within : (claim n : ℕ) (edges : Interval) (x m : ℤ) (d : ℕ) → Holds edges x → n * shortest claim ≤ d → d ≤ n * longest claim → m ≡ x +ℤ pos d → Holds (widened claim n edges) m

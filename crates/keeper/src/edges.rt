@@ -14,7 +14,7 @@ ghost use Prim.Native.Nat.{_+_, _*_, _≤_};
 ghost use lib.IntN.{_+ℤ_};
 ghost use Rattle.command.specs.Edges.{interval};
 ghost use Rattle.command.specs.Limits.{edgesWithin};
-ghost use Rattle.keeper.specs.Rules.{widened, bracket, noWider, adopted, narrowed, centre, errorOf};
+ghost use Rattle.rules.specs.Rules.{widened, bracket, noWider, adopted, narrowed, centre, errorOf};
 ghost use Rattle.keeper.specs.Settling.{placed};
 
 // Each edge moved by its own number of nanoseconds, unless one leaves the range.

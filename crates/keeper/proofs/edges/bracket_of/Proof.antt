@@ -1,12 +1,12 @@
--- `keeper::rules::bracket_of` meets its contract: the wait is short, so the leading edge with it fits.
+-- `keeper::edges::bracket_of` meets its contract: the wait is short, so the leading edge with it fits.
 use borrow.Author.Needs.{needs}
 use native.Mathlib.Omega.{arith}
 use mir.Facts.{toZ-ofZ}
 use Rattle.moment.proofs.Integers.{got}
-use Rattle.keeper.specs.Rules.{bracket}
+use Rattle.rules.specs.Rules.{bracket}
 use Rattle.keeper.proofs.EdgeLaws.{in-order, wait-bound, lower-fits, upper-fits, leading-fits}
-use Rattle.keeper.proofs.rules.bracket_of.Statement.{statement}
-use Rattle.keeper.proofs.rules.bracket_of.Tie as tie
+use Rattle.keeper.proofs.edges.bracket_of.Statement.{statement}
+use Rattle.keeper.proofs.edges.bracket_of.Tie as tie
 
 longest-span-requires : tie.Need-longest-span-requires
 longest-span-requires c κs = search needs

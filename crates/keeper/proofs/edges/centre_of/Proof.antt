@@ -1,11 +1,11 @@
--- `keeper::rules::centre_of` meets its contract: the sum of two moments fits.
+-- `keeper::edges::centre_of` meets its contract: the sum of two moments fits.
 use borrow.Author.Needs.{needs}
 use mir.Facts.{toZ-ofZ}
 use Rattle.moment.proofs.Integers.{got}
-use Rattle.keeper.specs.Rules.{centre}
+use Rattle.rules.specs.Rules.{centre}
 use Rattle.keeper.proofs.EdgeLaws.{in-order, lower-fits, upper-fits, ends-fit}
-use Rattle.keeper.proofs.rules.centre_of.Statement.{statement}
-use Rattle.keeper.proofs.rules.centre_of.Tie as tie
+use Rattle.keeper.proofs.edges.centre_of.Statement.{statement}
+use Rattle.keeper.proofs.edges.centre_of.Tie as tie
 
 add-floor-half : tie.Need-add-floor-half
 add-floor-half c =

@@ -1,11 +1,11 @@
--- `keeper::rules::error_of` meets its contract: the centre lies between the edges, so the difference fits.
+-- `keeper::edges::error_of` meets its contract: the centre lies between the edges, so the difference fits.
 use borrow.Author.Needs.{needs}
 use mir.Facts.{toZ-ofZ}
 use Rattle.moment.proofs.Integers.{got}
-use Rattle.keeper.specs.Rules.{errorOf}
+use Rattle.rules.specs.Rules.{errorOf}
 use Rattle.keeper.proofs.EdgeLaws.{in-order, upper-fits, error-fits}
-use Rattle.keeper.proofs.rules.error_of.Statement.{statement}
-use Rattle.keeper.proofs.rules.error_of.Tie as tie
+use Rattle.keeper.proofs.edges.error_of.Statement.{statement}
+use Rattle.keeper.proofs.edges.error_of.Tie as tie
 
 centre-of-requires : tie.Need-centre-of-requires
 centre-of-requires c κs =

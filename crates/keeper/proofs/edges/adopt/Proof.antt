@@ -1,4 +1,4 @@
--- `keeper::rules::adopt` meets its contract: the span turned round is the definition's difference.
+-- `keeper::edges::adopt` meets its contract: the span turned round is the definition's difference.
 use borrow.Author.Needs.{needs}
 use native.Mathlib.Omega.{arith}
 use mir.Facts.{toZ-ofZ}
@@ -6,10 +6,10 @@ use Rattle.moment.proofs.Integers.{got}
 use lib.IntN.{+ℤ-idl}
 use Rattle.moment.specs.Moment.{longest}
 use Rattle.moment.proofs.Integers.{product-fits}
-use Rattle.keeper.specs.Rules.{adopted}
+use Rattle.rules.specs.Rules.{adopted}
 use Rattle.keeper.proofs.EdgeLaws.{back-fits}
-use Rattle.keeper.proofs.rules.adopt.Statement.{statement}
-use Rattle.keeper.proofs.rules.adopt.Tie as tie
+use Rattle.keeper.proofs.edges.adopt.Statement.{statement}
+use Rattle.keeper.proofs.edges.adopt.Tie as tie
 
 longest-span-requires : tie.Need-longest-span-requires
 longest-span-requires c κs = search needs

@@ -1,9 +1,9 @@
--- `keeper::rules::narrow` meets its contract: the two calls give the definition's edges.
+-- `keeper::edges::narrow` meets its contract: the two calls give the definition's edges.
 use borrow.Author.Needs.{needs}
 use Rattle.moment.proofs.Integers.{got}
-use Rattle.keeper.specs.Rules.{narrowed}
-use Rattle.keeper.proofs.rules.narrow.Statement.{statement}
-use Rattle.keeper.proofs.rules.narrow.Tie as tie
+use Rattle.rules.specs.Rules.{narrowed}
+use Rattle.keeper.proofs.edges.narrow.Statement.{statement}
+use Rattle.keeper.proofs.edges.narrow.Tie as tie
 
 larger-requires : tie.Need-larger-requires
 larger-requires c κs = search needs

@@ -1,11 +1,11 @@
--- `keeper::rules::moved` meets its contract: each edge's move is in the range, or the answer is that one is not.
+-- `keeper::edges::moved` meets its contract: each edge's move is in the range, or the answer is that one is not.
 use borrow.Author.Needs.{needs}
 use mathlib.Core.Path.{sym, _∙_}
 use mir.Facts.{toZ-ofZ}
 use Rattle.moment.proofs.Integers.{got}
 use Rattle.keeper.proofs.EdgeLaws.{moved-found, moved-lost, placed-low, placed-high, placed-both, range-fits}
-use Rattle.keeper.proofs.rules.moved.Statement.{statement}
-use Rattle.keeper.proofs.rules.moved.Tie as tie
+use Rattle.keeper.proofs.edges.moved.Statement.{statement}
+use Rattle.keeper.proofs.edges.moved.Tie as tie
 
 move-edge-requires : tie.Need-move-edge-requires
 move-edge-requires c κs = search needs

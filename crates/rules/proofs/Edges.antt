@@ -11,8 +11,8 @@ use Rattle.moment.specs.declared.Interval.{Interval}
 use Rattle.moment.proofs.Integers.{ints, make-leZ-true, sum, dif, max-is, min-is}
 use Rattle.moment.proofs.Intervals.{range-made, range-read, meet}
 use Rattle.command.specs.Limits.{edgesWithin}
-use Rattle.keeper.specs.Rules.{widened, bracket, conflicting, narrowed, noWider, adopted, bothInRange}
-use Rattle.keeper.proofs.Bits.{both, join}
+use Rattle.rules.specs.Rules.{widened, bracket, conflicting, narrowed, noWider, adopted, bothInRange}
+use Rattle.rules.proofs.Tests.{both, join}
 
 -- ---- edges within their limits, as orders of integers
 

@@ -1,12 +1,12 @@
--- `keeper::rules::no_wider` meets its contract: both widths fit, so the test is the definition's.
+-- `keeper::edges::no_wider` meets its contract: both widths fit, so the test is the definition's.
 use borrow.Author.Needs.{needs}
 use native.Mathlib.Omega.{arith}
 use mir.Facts.{toZ-ofZ}
 use Rattle.moment.proofs.Integers.{got}
-use Rattle.keeper.specs.Rules.{noWider}
+use Rattle.rules.specs.Rules.{noWider}
 use Rattle.keeper.proofs.EdgeLaws.{in-order, wait-bound, lower-fits, upper-fits, width-fits, twice-fits, wide-fits}
-use Rattle.keeper.proofs.rules.no_wider.Statement.{statement}
-use Rattle.keeper.proofs.rules.no_wider.Tie as tie
+use Rattle.keeper.proofs.edges.no_wider.Statement.{statement}
+use Rattle.keeper.proofs.edges.no_wider.Tie as tie
 
 longest-span-requires : tie.Need-longest-span-requires
 longest-span-requires c κs = search needs

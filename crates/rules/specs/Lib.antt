@@ -1,0 +1,2 @@
+-- The rules on edges.
+pub mod Rules
