@@ -150,7 +150,7 @@ fn answer_line(out: &mut [u8], answer: Answer, keeper: Keeper) -> usize
 }
 
 // Writes the line of an answer and its LF at the front of the output, and gives the length written.
-pub fn write_answer(out: &mut [u8], answer: Answer, keeper: Keeper) -> usize
+pub(crate) fn write_answer(out: &mut [u8], answer: Answer, keeper: Keeper) -> usize
     requires { ⌜ (leastOutput ≤ length (now out)) × (answer ≡ Waiting → countsAsStarted keeper ≡ true) ⌝ }
     ensures { λ r. ⌜ Wrote answer keeper (now (out .entry)) (now (out .exit)) r ⌝ }
 {

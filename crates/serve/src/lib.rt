@@ -1,14 +1,16 @@
 // Lines from one descriptor to another, through one keeper: the work of the program boardtime.
 use keeper::Keeper;
+use line::LEAST_OUTPUT;
 use line::call;
+use reader::LONGEST_LINE;
 ghost use Prim.Native.Nat.{_≤_, _<_, _+_};
 ghost use mathlib.Core.Path.{_≡_};
 ghost use lib.ListN.{length};
 
 // A line is held to the longest that a command may have and one byte more: what is longer is refused by that much of it.
-const HELD: usize = 121;
+const HELD: usize = LONGEST_LINE + 1;
 // What an answer may take of the output.
-const ROOM: usize = 256;
+const ROOM: usize = LEAST_OUTPUT;
 
 const LF: u8 = 10;
 
