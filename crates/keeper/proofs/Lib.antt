@@ -9,3 +9,4 @@ pub mod Clauses
 pub mod CallLaws
 pub mod EdgeLaws
 pub mod SettlingLaws
+pub mod LentLaws

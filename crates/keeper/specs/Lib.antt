@@ -2,5 +2,6 @@
 pub mod State
 pub mod Refusals
 pub mod Apply
+pub mod Lent
 pub mod Numbers
 pub mod Settling

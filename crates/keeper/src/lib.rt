@@ -2,8 +2,10 @@
 use command::Rule;
 use moment::Interval;
 
+pub mod answers;
 pub mod calls;
 mod edges;
+pub mod lent;
 mod peers;
 mod replies;
 mod started;

@@ -4,13 +4,13 @@ use command::Reading;
 use keeper::Answer;
 use keeper::Keeper;
 use keeper::Outcome;
+use keeper::answers::number_of;
 use keeper::calls::apply_command;
 use reader::read_command;
 
 mod write;
 
 ghost use mathlib.Core.Path.{_≡_};
-ghost use Rattle.keeper.specs.Apply.{numberOf};
 ghost use Rattle.line.specs.Call.{answered, Called};
 
 // The least output that a line's answer is written to.
@@ -21,29 +21,6 @@ pub struct Response {
     pub number: u8,
     pub keeper: Keeper,
     pub length: usize,
-}
-
-fn number_of(answer: Answer) -> u8
-    ensures { λ r. ⌜ r ≡ numberOf answer ⌝ }
-{
-    match answer {
-        Answer::Started(_) => 0,
-        Answer::At(_, _) => 0,
-        Answer::Sent(_, _) => 0,
-        Answer::Taken(_, _) => 0,
-        Answer::Kept(_, _) => 0,
-        Answer::Conflict(_, _) => 0,
-        Answer::Dropped(_) => 0,
-        Answer::Time {
-            edges: _,
-            centre: _,
-            error: _,
-            conflicts: _,
-            waiting: _,
-        } => 0,
-        Answer::Waiting => 0,
-        Answer::Refused(n) => n,
-    }
 }
 
 // What is answered to a line, and the keeper after it.
