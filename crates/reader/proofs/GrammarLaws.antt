@@ -15,7 +15,7 @@ use Rattle.text.proofs.WordLaws.{word-found, word-other, found-word}
 use Rattle.command.specs.Forms as F
 use Rattle.command.specs.Forms.{Form, Spells, parts, IsSpelling}
 use Rattle.command.specs.Limits.{keeps, commandOf, formOf, numberOf, limited}
-use Rattle.reader.specs.Reading.{Values, Shape, startShape, passShape, requestShape, replyShape, dropShape, readShape, waitingShape, shapes, readParts, formed, byWord, parseAs, parse, judged, shapedFrom, longestLine, readingOf}
+use Rattle.reader.specs.Reading.{Values, Shape, startShape, passShape, requestShape, replyShape, dropShape, readShape, waitingShape, shapes, readParts, formed, byWord, parseAs, parse, judged, shapedFrom, wordThen, takenWord, wordOf, wordFrom, restOf, longestLine, readingOf}
 use Rattle.reader.specs.Grammar.{Shaped, ReadsTheGrammar}
 use Rattle.command.specs.declared.Command.{Command}
 use Rattle.command.specs.declared.Command.the-variants as C
@@ -121,16 +121,41 @@ parse-complete F.waiting line h = find-shape 5 waitingShape _ line tt refl refl 
 parse-complete (F.start board rule claim edges) line h =
     find-shape 6 startShape _ line (board, (rule, (claim, (edges .lower, (edges .upper, tt))))) refl refl refl h
 
--- ---- the shape that the code tries next
+-- ---- the word that a form begins with, and the parts that follow it
 
-module _ (s : Shape) (ss : List Shape) (line : List ℕ) where
-  pub shape-other : wordAt line 0 (bytes (s .word)) ≡ Other → parseAs (s ∷ ss) line ≡ parseAs ss line
-  unfolding parseAs
-  shape-other e = rw e
+module _ (s : Shape) (ss : List Shape) (line : List ℕ) (at : ℕ) where
+  pub word-passed : wordAt line at (bytes (s .word)) ≡ Other → wordOf (s ∷ ss) line at ≡ wordOf ss line at
+  unfolding wordOf
+  word-passed e = rw e
 
-  pub shape-taken : (at : ℕ) → wordAt line 0 (bytes (s .word)) ≡ After at → judged (parseAs (s ∷ ss) line) ≡ shapedFrom s line at
-  unfolding parseAs shapedFrom
-  shape-taken at e = rw e
+  pub word-taken : (next : ℕ) → wordAt line at (bytes (s .word)) ≡ After next → wordOf (s ∷ ss) line at ≡ wordThen (s .named) next
+  unfolding wordOf
+  word-taken next e = rw e
+
+-- after each shape's word come that shape's parts
+abbrev AllFollow : List Shape → Type 0
+AllFollow [] = Unit {0}
+AllFollow (s ∷ ss) = ((line : List ℕ) (at : ℕ) → restOf (s .named) line at ≡ shapedFrom s line at) × AllFollow ss
+
+shapes-follow : AllFollow shapes
+unfolding restOf
+shapes-follow = (λ l a. refl, (λ l a. refl, (λ l a. refl, (λ l a. refl, (λ l a. refl, (λ l a. refl, (λ l a. refl, tt)))))))
+
+word-then-rest : (ss : List Shape) → AllFollow ss → (line : List ℕ) → restOf (wordOf ss line 0 .0) line (wordOf ss line 0 .1) ≡ judged (parseAs ss line)
+unfolding wordOf parseAs restOf shapedFrom
+word-then-rest [] follow line = refl
+word-then-rest (s ∷ ss) follow line = by-word (wordAt line 0 (bytes (s .word))) (word-then-rest ss (follow .1) line)
+  where
+    by-word : (w : Word) → restOf (wordOf ss line 0 .0) line (wordOf ss line 0 .1) ≡ judged (parseAs ss line)
+        → restOf (takenWord w (s .named) (wordOf ss line 0) .0) line (takenWord w (s .named) (wordOf ss line 0) .1)
+        ≡ judged (byWord w (λ at. formed (s .form) (readParts (s .kinds) line at)) (parseAs ss line))
+    by-word (After next) ih = follow .0 line next
+    by-word Other ih = ih
+
+-- the word of the line's form, and what is left read as that form's parts, are what the line is
+pub walked-is-parsed : (line : List ℕ) → restOf (wordFrom line 0 .0) line (wordFrom line 0 .1) ≡ judged (parse line)
+unfolding wordFrom parse
+walked-is-parsed line = word-then-rest shapes shapes-follow line
 
 -- ---- the theorem
 

@@ -25,6 +25,9 @@ use Rattle.reader.specs.declared.parts.RuleAt.{RuleAt}
 use Rattle.reader.specs.declared.parts.RuleAt.the-variants as R
 use Rattle.reader.specs.declared.parts.End.{End}
 use Rattle.reader.specs.declared.parts.End.the-variants as E
+use Rattle.reader.specs.declared.shapes.FormWord.{FormWord}
+use Rattle.reader.specs.declared.shapes.FormWord.the-variants as W
+use Rattle.reader.specs.declared.shapes.WordAt.{WordAt}
 use Rattle.command.specs.declared.Reading.{Reading}
 use Rattle.command.specs.declared.Reading.the-variants.{NoShape}
 
@@ -88,8 +91,9 @@ readParts (rule ∷ ks) line at = afterRule (ruleAt line at) (λ r next. before 
 readParts (number ∷ ks) line at = afterNumber (numberAt line at) (λ n next. before n (readParts ks line next))
 readParts (edge ∷ ks) line at = afterSigned (signedAt line at) (λ z next. before z (readParts ks line next))
 
--- A shape of the grammar: the text that it begins with, what follows, and the form that it is of.
+-- A shape of the grammar: its form's word, the text that it begins with, what follows, and the form that it is of.
 pub record Shape : Type 0 where
+  pub named : FormWord
   pub word : String
   pub kinds : List Kind
   pub form : Values kinds → Form
@@ -111,29 +115,30 @@ replyKinds = number ∷ text " " ∷ number ∷ lastEdges
 abbrev pub startShape : Shape
 startShape =
     record {
+      named = W.Start;
       word = "(start ";
       kinds = startKinds;
       form = λ v. F.start (v .0) (v .1 .0) (v .1 .1 .0) (interval (v .1 .1 .1 .0) (v .1 .1 .1 .1 .0));
     }
 
 abbrev pub passShape : Shape
-passShape = record { word = "(pass "; kinds = lastNumber; form = λ v. F.pass (v .0) }
+passShape = record { named = W.Pass; word = "(pass "; kinds = lastNumber; form = λ v. F.pass (v .0) }
 
 abbrev pub requestShape : Shape
-requestShape = record { word = "(request "; kinds = lastNumber; form = λ v. F.request (v .0) }
+requestShape = record { named = W.Request; word = "(request "; kinds = lastNumber; form = λ v. F.request (v .0) }
 
 abbrev pub replyShape : Shape
 replyShape =
-    record { word = "(reply "; kinds = replyKinds; form = λ v. F.reply (v .0) (v .1 .0) (interval (v .1 .1 .0) (v .1 .1 .1 .0)) }
+    record { named = W.Reply; word = "(reply "; kinds = replyKinds; form = λ v. F.reply (v .0) (v .1 .0) (interval (v .1 .1 .0) (v .1 .1 .1 .0)) }
 
 abbrev pub dropShape : Shape
-dropShape = record { word = "(drop "; kinds = lastNumber; form = λ v. F.drop (v .0) }
+dropShape = record { named = W.Drop; word = "(drop "; kinds = lastNumber; form = λ v. F.drop (v .0) }
 
 abbrev pub readShape : Shape
-readShape = record { word = "(read)"; kinds = []; form = λ v. F.read }
+readShape = record { named = W.Read; word = "(read)"; kinds = []; form = λ v. F.read }
 
 abbrev pub waitingShape : Shape
-waitingShape = record { word = "(waiting)"; kinds = []; form = λ v. F.waiting }
+waitingShape = record { named = W.Waiting; word = "(waiting)"; kinds = []; form = λ v. F.waiting }
 
 -- The shapes, in the order in which they are tried: the commonest first.
 abbrev pub shapes : List Shape
@@ -162,9 +167,36 @@ abbrev pub judged : Option Form → Reading
 judged none = NoShape
 judged (some f) = limited f
 
+-- A form's word, and the place after it.
+abbrev pub wordThen : FormWord → ℕ → WordAt
+wordThen w next = record { 0 = w; 1 = next }
+
+-- The word of the first shape whose text stands at the place, with the place after it.
+abbrev pub takenWord : Word → FormWord → WordAt → WordAt
+takenWord (After next) w otherwise = wordThen w next
+takenWord Other w otherwise = otherwise
+
+unfoldable pub wordOf : List Shape → List ℕ → ℕ → WordAt
+wordOf [] line at = wordThen W.Unknown at
+wordOf (s ∷ ss) line at = takenWord (wordAt line at (bytes (s .word))) (s .named) (wordOf ss line at)
+
+unfoldable pub wordFrom : List ℕ → ℕ → WordAt
+wordFrom line at = wordOf shapes line at
+
 -- What a line is that begins with the shape's text, and goes on at the place.
 unfoldable pub shapedFrom : Shape → List ℕ → ℕ → Reading
 shapedFrom s line at = judged (formed (s .form) (readParts (s .kinds) line at))
+
+-- What a line is that begins with the word, and goes on at the place.
+unfoldable pub restOf : FormWord → List ℕ → ℕ → Reading
+restOf W.Start line at = shapedFrom startShape line at
+restOf W.Pass line at = shapedFrom passShape line at
+restOf W.Request line at = shapedFrom requestShape line at
+restOf W.Reply line at = shapedFrom replyShape line at
+restOf W.Drop line at = shapedFrom dropShape line at
+restOf W.Read line at = shapedFrom readShape line at
+restOf W.Waiting line at = shapedFrom waitingShape line at
+restOf W.Unknown line at = NoShape
 
 -- 'A line is at most 120 bytes, without its LF.'
 abbrev pub longestLine : ℕ
