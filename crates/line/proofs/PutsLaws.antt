@@ -55,7 +55,7 @@ with-lf {a} {k} {b} {x} {y} {n} {m} l room p =
     let both : Put b 0 (s ++ 10 ∷ []) y m = put-both (f .put) p (omega (arith, f .short)) in
     let long : length (s ++ 10 ∷ []) ≡ length s + 1 = length-append s (10 ∷ []) in
     let (out, place) = put-room {at = 0} (omega (arith, f .short)) both in
-    record { bytes = s; line = l .line; output = out ∙ rw (append-assoc s (10 ∷ []), long, zero-add); written = omega arith }
+    record { bytes = s; line = l .line; output = out ∙ rw (append-assoc s (10 ∷ []), long, zero-add); written = omega arith; short = omega (arith, f .short) }
 
 -- ---- how long a spelling is, by the type of what is spelled
 

@@ -1,10 +1,12 @@
 -- Laws of the whole call: the list of the waiting peers is answered only by a keeper that counts as started, and what is written lies within
 -- the output.
-use mathlib.Core.Path.{_≡_, ap}
-use mathlib.Core.Bool.{true}
+use mathlib.Core.Path.{_≡_, refl, ap}
+use mathlib.Core.Bool.{Bool, true, false}
 use mathlib.Core.List.{List, _∷_}
 use Prim.Native.Nat.{ℕ, _+_, _≤_}
 use native.Mathlib.Omega.{arith}
+use borrow.Author.Tests.{ltb-true, ltb-false}
+use lib.Dec.{ltb}
 use lib.ListN.{length, drop, length-append}
 use Rattle.command.specs.declared.Reading.{Reading}
 use Rattle.command.specs.declared.Reading.the-variants.{Accepted, NoShape, OutsideLimits}
@@ -14,7 +16,7 @@ use Rattle.keeper.specs.declared.Keeper.{Keeper}
 use Rattle.keeper.specs.declared.Answer.{Answer}
 use Rattle.keeper.specs.declared.Answer.the-variants as A
 use Rattle.keeper.proofs.Listing.{listed-started}
-use Rattle.line.specs.Call.{byReading, answered, Wrote}
+use Rattle.line.specs.Call.{leastOutput, byReading, answered, Wrote, Called}
 
 pub listed : (k : Keeper) (line : List ℕ) → answered k line .answer ≡ A.Waiting → countsAsStarted (answered k line .keeper) ≡ true
 unfolding answered
@@ -28,3 +30,11 @@ listed k line h = go (readingOf line) h
 pub wrote-within : {a : Answer} {k : Keeper} {before after : List ℕ} {n : ℕ} → Wrote a k before after n → length after ≡ length before → n ≤ length before
 wrote-within {before = before} w same =
     omega (arith, w .written, ap length (w .output), length-append (w .bytes) (10 ∷ drop (length (w .bytes) + 1) before))
+
+-- what a call writes is never longer than the least output
+pub called-short : {k next : Keeper} {line before after : List ℕ} {number n : ℕ} → Called k line before number next after n → n ≤ leastOutput
+called-short {before = before} {n = n} c = by-room (ltb (length before) leastOutput) refl
+  where
+    by-room : (t : Bool) → ltb (length before) leastOutput ≡ t → n ≤ leastOutput
+    by-room true e = omega (arith, c .untouched (ltb-true (length before) leastOutput e) .1)
+    by-room false e = c .written (ltb-false (length before) leastOutput e) .short

@@ -37,12 +37,13 @@ unfoldable pub keeperAfter : Keeper → List ℕ → ℕ → Keeper
 keeperAfter k line room = choose (ltb room leastOutput) (λ _. k) (λ _. answered k line .keeper)
 
 -- An answer's line was written at the front of an output: 'each line written ends in LF' (byte 10), and 'output beyond the line written is never
--- touched'. n is the length written.
+-- touched'. n is the length written, for which the least output has room.
 pub record Wrote (a : Answer) (k : Keeper) (before after : List ℕ) (n : ℕ) : Type 0 where
   pub bytes : List ℕ
   pub line : IsLine a k bytes
   pub output : after ≡ bytes ++ 10 ∷ drop (length bytes + 1) before
   pub written : n ≡ length bytes + 1
+  pub short : n ≤ leastOutput
 
 -- The whole call: the number returned, the keeper handed back, the output after it and the length written.
 pub record Called (k : Keeper) (line before : List ℕ) (number : ℕ) (next : Keeper) (after : List ℕ) (n : ℕ) : Type 0 where

@@ -1,0 +1,2 @@
+-- What the contracts of `boardtime_lib` cite.
+pub mod Lent

@@ -1,0 +1,64 @@
+// The keeper for firmware in C and Rust: functions on numbers and lent bytes. The keeper crosses as an image (crate `image`), which a board
+// may keep over a reset. A caller's buffers do not overlap; nothing else is asked of it.
+use image::is_image;
+use image::load::load;
+use image::store::store;
+use keeper::Keeper;
+use keeper::answers::number_of;
+use line::call;
+ghost use mathlib.Core.Path.{_≡_};
+ghost use Rattle.boardtime_lib.specs.Lent.{FreshLent, LineLent, PassLent};
+
+// Returned for a buffer that has not the length of an image. No refusal of document 01 or 02 has this number.
+pub const WRONG_LENGTH: u8 = 255;
+
+// Stores the image of a fresh keeper.
+#[no_mangle]
+pub extern "C" fn boardtime_fresh(image: &mut [u8]) -> u8
+    ensures { λ r. ⌜ FreshLent (now (image .entry)) r (now (image .exit)) ⌝ }
+{
+    if !is_image(image) {
+        return WRONG_LENGTH;
+    }
+    store(image, Keeper::fresh());
+    0
+}
+
+// Answers a line. The number is the result's lowest byte, and the length written the bytes above it. A refused call leaves the image as
+// it was, to the byte, also one that can't be read.
+#[no_mangle]
+pub extern "C" fn boardtime_line(image: &mut [u8], line: &[u8], out: &mut [u8]) -> u32
+    ensures { λ r. ⌜ LineLent (now (image .entry)) (now (line .entry)) (now (out .entry)) r (now (image .exit)) (now (out .exit)) ⌝ }
+{
+    if !is_image(image) {
+        return WRONG_LENGTH as u32;
+    }
+    let response = call(load(image), line, out);
+    let number = response.number;
+    let next = response.keeper;
+    let answered = (number as u32) + 256 * (response.length as u32);
+    if number != 0 {
+        return answered;
+    }
+    store(image, next);
+    answered
+}
+
+// Moves the keeper on by a number of ticks, as the line '(pass TICKS)' does, and writes no line.
+#[no_mangle]
+pub extern "C" fn boardtime_pass(image: &mut [u8], ticks: u32) -> u8
+    ensures { λ r. ⌜ PassLent (now (image .entry)) ticks r (now (image .exit)) ⌝ }
+{
+    if !is_image(image) {
+        return WRONG_LENGTH;
+    }
+    let outcome = load(image).pass(ticks);
+    let answer = outcome.answer;
+    let next = outcome.keeper;
+    let refusal = number_of(answer);
+    if refusal != 0 {
+        return refusal;
+    }
+    store(image, next);
+    0
+}

@@ -1,0 +1,37 @@
+-- The laws of the layout: what can be read has the length, and a keeper's image is read as that keeper.
+use mathlib.Core.Path.{_≡_, refl, ap, _∙_}
+use mathlib.Core.Bool.{Bool, true, false, _&&_}
+use mathlib.Core.List.{List}
+use Prim.Native.Nat.{ℕ, _+_, _≤_}
+use native.Mathlib.Omega.{arith}
+use borrow.Author.Tests.{eqb-true, leb-true}
+use lib.Dec.{eqb, leb}
+use lib.ListN.{length, getD, length-append}
+use Rattle.keeper.specs.declared.Keeper.{Keeper}
+use Rattle.image.specs.Bytes.{lowestFirst, eachLowestFirst}
+use Rattle.image.specs.Layout.{imageLength, version, readable, ownBytes, peerBytes, imageOf}
+use Rattle.image.proofs.StoreLaws.{length-each}
+
+both : (p q : Bool) → (p && q) ≡ true → (p ≡ true) × (q ≡ true)
+both true q e = (refl, e)
+both false q e = absurd (let k : _≡_ {A = ℕ} 0 1 = cc in omega arith)
+
+-- what an image that can be read has: the length, the version, and bytes for started and rule
+pub readable-parts : (l : List ℕ) → readable l ≡ true → (length l ≡ imageLength) × (getD l 0 0 ≡ version) × (getD l 1 0 ≤ 1) × (getD l 3 0 ≤ 1)
+unfolding readable
+readable-parts l e =
+    let (three, rule) = both _ (leb (getD l 3 0) 1) e in
+    let (two, started) = both _ (leb (getD l 1 0) 1) three in
+    let (long, first) = both _ (eqb (getD l 0 0) version) two in
+    (eqb-true _ _ long, eqb-true _ _ first, leb-true _ _ started, leb-true _ _ rule)
+
+pub readable-length : (l : List ℕ) → readable l ≡ true → length l ≡ imageLength
+readable-length l e = readable-parts l e .0
+
+-- an image has its length
+pub image-length : (k : Keeper) → length (k .tags) ≡ 16 → length (k .«sent_at») ≡ 16 → length (imageOf k) ≡ imageLength
+unfolding imageOf lowestFirst
+image-length k t s =
+    length-append (ownBytes k) (peerBytes k)
+    ∙ ap (λ (n : ℕ). 40 + n) (length-append (eachLowestFirst 4 (k .tags)) (eachLowestFirst 8 (k .«sent_at»)))
+    ∙ omega (arith, length-each 4 (k .tags), length-each 8 (k .«sent_at»), t, s)

@@ -1,0 +1,43 @@
+-- `image::bytes::load_2` meets its contract.
+use mathlib.Core.Path.{sym}
+use Rattle.image.proofs.ByteLaws.{number-2}
+use borrow.Author.Needs.{needs}
+use Rattle.image.proofs.bytes.load_2.Statement.{statement}
+use Rattle.image.proofs.bytes.load_2.Tie as tie
+
+shared-slice-read-wide : tie.Need-shared-slice-read-wide
+shared-slice-read-wide c = search needs
+
+wide-requires : tie.Need-wide-requires
+wide-requires c κs = search needs
+
+add-wide : tie.Need-add-wide
+add-wide c = search needs
+
+shared-slice-read-wide-2 : tie.Need-shared-slice-read-wide-2
+shared-slice-read-wide-2 c = search needs
+
+wide-requires-2 : tie.Need-wide-requires-2
+wide-requires-2 c κs = search needs
+
+mul-result : tie.Need-mul-result
+mul-result c = search needs
+
+add-result : tie.Need-add-result
+add-result c = search needs
+
+returns : tie.Need-returns
+returns c = rw (c .before .before .wide .ensures .0, c .wide2 .ensures .0) (sym (number-2 _ _))
+
+pub load-2-spec : {M : Type 1} → statement M
+load-2-spec =
+    tie.close
+    (tie.spec
+    shared-slice-read-wide
+    wide-requires
+    add-wide
+    shared-slice-read-wide-2
+    wide-requires-2
+    mul-result
+    add-result
+    returns)

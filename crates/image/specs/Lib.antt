@@ -1,0 +1,3 @@
+-- What the contracts of `image` cite.
+pub mod Bytes
+pub mod Layout
