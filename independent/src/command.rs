@@ -1,0 +1,137 @@
+//! The commands: their shapes and the ranges of their numerals.
+//!
+//! A wrong shape comes before a numeral outside its range, so each reading
+//! function first takes the whole line and only then tests the numerals.
+
+use crate::interval::Interval;
+use crate::keeper::Rule;
+use crate::limits::{BOARDS, MAX_CLAIM, MAX_LINE, MAX_PASS, MAX_REQUESTS};
+use crate::reader::Reader;
+use crate::refusal::Refusal;
+
+/// A line that has a command shape and numerals within their ranges.
+pub enum Command {
+    Start(Start),
+    Pass { ticks: u32 },
+    Request { peer: u8 },
+    Reply(Reply),
+    Drop { peer: u8 },
+    Read,
+    Waiting,
+}
+
+pub struct Start {
+    pub board: u8,
+    pub rule: Rule,
+    pub claim: u16,
+    pub interval: Interval,
+}
+
+pub struct Reply {
+    pub peer: u8,
+    pub tag: u32,
+    /// From the trailing through the leading edge of the peer.
+    pub interval: Interval,
+}
+
+impl Command {
+    /// Reads a line without its LF.
+    pub fn read(line: &[u8]) -> Result<Command, Refusal> {
+        if line.len() > MAX_LINE {
+            return Err(Refusal::Shape);
+        }
+        let mut reader = Reader::new(line);
+        if reader.take(b"(pass ") {
+            read_pass(reader)
+        } else if reader.take(b"(request ") {
+            let peer = read_peer(reader)?;
+            Ok(Command::Request { peer })
+        } else if reader.take(b"(reply ") {
+            read_reply(reader)
+        } else if reader.take(b"(drop ") {
+            let peer = read_peer(reader)?;
+            Ok(Command::Drop { peer })
+        } else if reader.take(b"(start ") {
+            read_start(reader)
+        } else if line == b"(read)" {
+            Ok(Command::Read)
+        } else if line == b"(waiting)" {
+            Ok(Command::Waiting)
+        } else {
+            Err(Refusal::Shape)
+        }
+    }
+}
+
+/// `TICKS)`
+fn read_pass(mut reader: Reader) -> Result<Command, Refusal> {
+    let ticks = reader.count()?;
+    reader.finish(b")")?;
+    let ticks = at_most(ticks, u64::from(MAX_PASS))? as u32;
+    Ok(Command::Pass { ticks })
+}
+
+/// `PEER)`
+fn read_peer(mut reader: Reader) -> Result<u8, Refusal> {
+    let peer = reader.count()?;
+    reader.finish(b")")?;
+    board_number(peer)
+}
+
+/// `PEER TAG (TRAILING LEADING))`
+fn read_reply(mut reader: Reader) -> Result<Command, Refusal> {
+    let peer = reader.count()?;
+    reader.expect(b" ")?;
+    let tag = reader.count()?;
+    let interval = reader.finish_with_interval()?;
+
+    let peer = board_number(peer)?;
+    let tag = at_most(tag, u64::from(MAX_REQUESTS))? as u32;
+    if tag == 0 || !interval.is_valid() {
+        return Err(Refusal::Range);
+    }
+    Ok(Command::Reply(Reply {
+        peer,
+        tag,
+        interval,
+    }))
+}
+
+/// `BOARD RULE CLAIM (LOWER UPPER))`
+fn read_start(mut reader: Reader) -> Result<Command, Refusal> {
+    let board = reader.count()?;
+    let rule = if reader.take(b" im ") {
+        Rule::Im
+    } else {
+        reader.expect(b" mm ")?;
+        Rule::Mm
+    };
+    let claim = reader.count()?;
+    let interval = reader.finish_with_interval()?;
+
+    let board = board_number(board)?;
+    let claim = at_most(claim, u64::from(MAX_CLAIM))? as u16;
+    if !interval.is_valid() {
+        return Err(Refusal::Range);
+    }
+    Ok(Command::Start(Start {
+        board,
+        rule,
+        claim,
+        interval,
+    }))
+}
+
+fn board_number(value: u64) -> Result<u8, Refusal> {
+    Ok(at_most(value, BOARDS as u64 - 1)? as u8)
+}
+
+/// Passes on a value up to `limit`, which may then be cast to a type that
+/// holds the limit.
+fn at_most(value: u64, limit: u64) -> Result<u64, Refusal> {
+    if value <= limit {
+        Ok(value)
+    } else {
+        Err(Refusal::Range)
+    }
+}

@@ -1,0 +1,24 @@
+//! The board's time keeper: an interval of moments that is known to contain
+//! the true time, kept up to date from ticks of the board's counter and from
+//! replies of other boards.
+//!
+//! Written from the specification alone. The library needs no heap and no
+//! operating system.
+
+#![no_std]
+#![forbid(unsafe_code)]
+
+mod answer;
+mod calls;
+mod command;
+mod image;
+mod interval;
+mod keeper;
+pub mod limits;
+mod reader;
+mod refusal;
+mod writer;
+
+pub use answer::{answer_line, pass, Answered};
+pub use image::{answer_image, fresh_image, pass_image, IMAGE_LENGTH, WRONG_LENGTH};
+pub use keeper::{Keeper, Rule};

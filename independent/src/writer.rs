@@ -1,0 +1,59 @@
+//! Writing an answer into the output that a caller lends.
+
+use crate::interval::Interval;
+use crate::limits::MIN_OUTPUT;
+
+/// The lent output and how much of it is written. No byte after the written
+/// ones is touched.
+pub struct Writer<'a> {
+    output: &'a mut [u8; MIN_OUTPUT],
+    length: usize,
+}
+
+impl<'a> Writer<'a> {
+    pub fn new(output: &'a mut [u8; MIN_OUTPUT]) -> Writer<'a> {
+        Writer { output, length: 0 }
+    }
+
+    /// Number of bytes written.
+    pub fn length(&self) -> usize {
+        self.length
+    }
+
+    pub fn text<const N: usize>(&mut self, text: &[u8; N]) {
+        self.next(N).copy_from_slice(text);
+    }
+
+    pub fn count(&mut self, value: u64) {
+        let digits = value.checked_ilog10().unwrap_or(0) as usize + 1;
+        let mut rest = value;
+        for place in self.next(digits).iter_mut().rev() {
+            *place = b'0' + (rest % 10) as u8;
+            rest /= 10;
+        }
+    }
+
+    pub fn moment(&mut self, value: i64) {
+        if value < 0 {
+            self.text(b"-");
+        }
+        self.count(value.unsigned_abs());
+    }
+
+    /// `(LOWER UPPER)`
+    pub fn interval(&mut self, interval: Interval) {
+        self.text(b"(");
+        self.moment(interval.lower);
+        self.text(b" ");
+        self.moment(interval.upper);
+        self.text(b")");
+    }
+
+    /// The next `count` bytes of the output. The longest answer has 211 bytes,
+    /// so they are always there.
+    fn next(&mut self, count: usize) -> &mut [u8] {
+        let from = self.length;
+        self.length += count;
+        &mut self.output[from..self.length]
+    }
+}

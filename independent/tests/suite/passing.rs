@@ -1,0 +1,47 @@
+//! The pass with a number instead of a line.
+
+use independent::{pass, Keeper};
+
+use crate::caller::{after, ask};
+
+#[test]
+fn the_same_effect_as_the_line() {
+    let start = after(&["(start 3 im 200 (-1000 1000))"]);
+    for ticks in [0, 1, 10, 86_400_000] {
+        let (mut by_number, mut by_line) = (start.clone(), start.clone());
+        assert_eq!(pass(&mut by_number, ticks), 0);
+        ask(&mut by_line, format!("(pass {ticks})"));
+        assert_eq!(by_number, by_line);
+        assert_eq!(by_number.ticks, u64::from(ticks));
+    }
+}
+
+#[test]
+fn refusals_in_order() {
+    let mut fresh = Keeper::fresh();
+    assert_eq!(pass(&mut fresh, 86_400_001), 2);
+    assert_eq!(pass(&mut fresh, u32::MAX), 2);
+    assert_eq!(pass(&mut fresh, 86_400_000), 3);
+    assert_eq!(fresh, Keeper::fresh());
+
+    let full = after(&["(start 3 im 0 (0 4000000000000000000))"]);
+    let mut keeper = full.clone();
+    assert_eq!(pass(&mut keeper, 86_400_001), 2);
+    assert_eq!(pass(&mut keeper, 1), 5);
+    assert_eq!(keeper, full);
+    assert_eq!(pass(&mut keeper, 0), 0);
+    assert_eq!(keeper, full);
+
+    keeper.tags[0] = 1;
+    assert_eq!(pass(&mut keeper, 0), 3);
+}
+
+#[test]
+fn the_limit_of_the_ticks() {
+    let mut keeper = after(&["(start 3 im 0 (0 0))"]);
+    keeper.ticks = 4_000_000_000_000_000_000 - 1;
+    assert_eq!(pass(&mut keeper, 2), 5);
+    assert_eq!(pass(&mut keeper, 1), 0);
+    assert_eq!(pass(&mut keeper, 1), 5);
+    assert_eq!(pass(&mut keeper, 0), 0);
+}

@@ -1,0 +1,118 @@
+//! The program: how it splits its input and what it writes.
+
+use std::io::{Read, Write};
+use std::process::{Child, Command, Stdio};
+use std::thread;
+
+fn spawn() -> Child {
+    Command::new(env!("CARGO_BIN_EXE_independent"))
+        .stdin(Stdio::piped())
+        .stdout(Stdio::piped())
+        .stderr(Stdio::piped())
+        .spawn()
+        .expect("the program starts")
+}
+
+/// Runs the program on the whole input and returns its output.
+fn run(input: &[u8]) -> Vec<u8> {
+    let mut child = spawn();
+    let mut stdin = child.stdin.take().expect("a pipe");
+    let input = input.to_vec();
+    let writer = thread::spawn(move || stdin.write_all(&input));
+    let output = child.wait_with_output().expect("the program ends");
+    writer.join().expect("no panic").expect("all input is read");
+    assert!(output.status.success());
+    assert!(output.stderr.is_empty());
+    output.stdout
+}
+
+fn assert_run(input: &[u8], expected: &str) {
+    let output = String::from_utf8(run(input)).expect("ASCII");
+    assert_eq!(output, expected);
+}
+
+#[test]
+fn the_whole_run() {
+    assert_run(
+        b"(start 3 im 200 (-1000 1000))\n(pass 10)\n(request 4)\n(pass 5)\n\
+        (reply 4 1 (9999000 10001000))\n(reply 4 1 (9999000 10001000))\n(request 4)\n\
+        (reply 4 2 (15002001 15002001))\n(read)\n(pass 12x7)\n",
+        "(started 3)\n(at 10 (9997000 10003000))\n(sent 4 1)\n(at 15 (14996000 15004000))\n\
+        (taken 4 (14996000 15002000))\n(no 7)\n(sent 4 2)\n\
+        (conflict 4 (14996000 15002000))\n(time (14996000 15002000) (14999000 3000) 1 0)\n\
+        (no 1)\n",
+    );
+}
+
+#[test]
+fn empty_and_unfinished_lines() {
+    assert_run(b"", "");
+    assert_run(b"\n", "(no 1)\n");
+    assert_run(b"\n\n(read)\n", "(no 1)\n(no 1)\n(no 3)\n");
+    assert_run(b"(read)", "(no 3)\n");
+    assert_run(
+        b"(start 1 im 0 (0 0))\n(read)",
+        "(started 1)\n(time (0 0) (0 0) 0 0)\n",
+    );
+    assert_run(b"(read)\r\n", "(no 1)\n");
+}
+
+#[test]
+fn long_lines_are_refused_once() {
+    for length in [120, 121, 122, 65_535, 65_536, 65_537, 200_000] {
+        let mut input = b"(start 1 im 0 (0 0))\n(pass 1)".to_vec();
+        input.resize(input.len() + length, b' ');
+        input.extend_from_slice(b"\n(pass 2)\n");
+        let expected = "(started 1)\n(no 1)\n(at 2 (2000000 2000000))\n";
+        assert_run(&input, expected);
+    }
+    // A last line without LF.
+    assert_run(&vec![b'x'; 300_000], "(no 1)\n");
+}
+
+#[test]
+fn lines_across_blocks() {
+    // A first line of every length around the block places the next line
+    // across the end of the block in every way.
+    for length in 65_500..65_540 {
+        let mut input = vec![b'x'; length];
+        input.extend_from_slice(b"\n(start 1 im 0 (0 0))\n(read)\n");
+        assert_run(&input, "(no 1)\n(started 1)\n(time (0 0) (0 0) 0 0)\n");
+    }
+}
+
+#[test]
+fn many_answers_of_every_size() {
+    let mut input = b"(start 1 im 0 (0 0))\n".to_vec();
+    let mut expected = String::from("(started 1)\n");
+    for ticks in 1..=20_000 {
+        input.extend_from_slice(b"\n(pass 1)\n");
+        let edge = ticks * 1_000_000_i64;
+        expected.push_str(&format!("(no 1)\n(at {ticks} ({edge} {edge}))\n"));
+    }
+    assert_run(&input, &expected);
+    // One block of empty lines has more answers than the buffer holds.
+    assert_run(&vec![b'\n'; 200_000], &"(no 1)\n".repeat(200_000));
+}
+
+#[test]
+fn answers_are_written_before_the_next_read() {
+    let mut child = spawn();
+    let mut stdin = child.stdin.take().expect("a pipe");
+    let mut stdout = child.stdout.take().expect("a pipe");
+    for (input, answer) in [
+        (&b"(start 1 im 0 (0 0))\n"[..], "(started 1)\n"),
+        (b"(pass 1)\n(re", "(at 1 (1000000 1000000))\n"),
+        (b"ad)\n", "(time (1000000 1000000) (1000000 0) 0 0)\n"),
+    ] {
+        stdin.write_all(input).expect("the program reads");
+        let mut bytes = vec![0; answer.len()];
+        stdout.read_exact(&mut bytes).expect("the program answers");
+        assert_eq!(String::from_utf8_lossy(&bytes), answer);
+    }
+    drop(stdin);
+    let mut rest = Vec::new();
+    stdout.read_to_end(&mut rest).expect("the output ends");
+    assert!(rest.is_empty());
+    assert!(child.wait().expect("the program ends").success());
+}
