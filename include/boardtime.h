@@ -1,0 +1,132 @@
+/*
+ * boardtime: the time keeper of a board, as a static library.
+ *
+ * The keeper is an image: an array of 232 bytes that the caller owns. Each
+ * call reads the image, answers, and stores the image of the keeper after the
+ * call. The library holds nothing between calls, allocates nothing and calls
+ * nothing but memcpy. Calls on different images may run at the same time.
+ *
+ * Link with target/staticlib/libboardtime_lib.a, which the command
+ * `rt staticlib boardtime_lib` proves and builds. The archive is for x86-64.
+ *
+ * What the caller owes:
+ *   - every pointer is valid for the length that is passed with it, and is not
+ *     null even where that length is 0;
+ *   - the image and the output of a call do not overlap, and neither overlaps
+ *     the line.
+ * Nothing else is asked. Every call answers for all bytes, all lengths and all
+ * numbers.
+ *
+ * Layout of an image. Numbers are little-endian.
+ *
+ *   byte       field
+ *   0          version, 1
+ *   1          started, 0 or 1
+ *   2          board, 0 to 15
+ *   3          rule, 0 for im, 1 for mm
+ *   4..5       claim, 0 to 50000
+ *   6..7       mask of the waiting peers, bit p for peer p
+ *   8..15      lower edge in nanoseconds, signed, two's complement
+ *   16..23     upper edge, the same
+ *   24..31     ticks since the start
+ *   32..35     requests sent since the start
+ *   36..39     conflicts
+ *   40..103    the tag of each peer's request, 4 bytes for each of 16 peers
+ *   104..231   the tick count at each peer's request, 8 bytes for each peer
+ *
+ * An image whose byte 0 is not 1, or whose byte 1 or byte 3 is above 1, counts
+ * as not started, and so does one whose numbers no keeper can hold. A keeper
+ * that counts as not started accepts `(start ...)` alone.
+ *
+ * A board may keep the image in FRAM and go on with it after a reset. It then
+ * owes the keeper the ticks that passed meanwhile: without them the edges need
+ * no longer hold the true time. A reset in the middle of a call may leave an
+ * image of which only a part is stored, and not every such image counts as not
+ * started. A board that can be reset at any time makes the call on a copy and
+ * stores the copy with a check of its own.
+ */
+#ifndef BOARDTIME_H
+#define BOARDTIME_H
+
+#include <stddef.h>
+#include <stdint.h>
+
+#ifdef __cplusplus
+extern "C" {
+#endif
+
+/* Length of an image. */
+#define BOARDTIME_IMAGE_BYTES 232
+/* Least length of the output for a line; a shorter one is refused with 10. No
+   answer is longer than this. */
+#define BOARDTIME_OUTPUT_BYTES 256
+/* Greatest length of a line without its LF; a longer one is refused with 1. */
+#define BOARDTIME_LINE_BYTES 120
+
+/*
+ * The number that a call returns. After any number but 0 the image is as it
+ * was.
+ */
+/* The call was accepted. */
+#define BOARDTIME_ACCEPTED 0
+/* The line has no command's shape, or is longer than 120 bytes. */
+#define BOARDTIME_NO_SHAPE 1
+/* A numeral is outside its range, or a first edge is above the second. */
+#define BOARDTIME_OUTSIDE_RANGE 2
+/* A start after a start, or another call before one. */
+#define BOARDTIME_WRONG_ORDER 3
+/* The peer is the board itself. */
+#define BOARDTIME_OWN_BOARD 4
+/* An edge would leave the range of moments, or the ticks their limit. */
+#define BOARDTIME_OVERFLOW 5
+/* A request to a peer that has one waiting. */
+#define BOARDTIME_STILL_WAITING 6
+/* A reply or drop for a peer with none waiting, or a reply with another tag. */
+#define BOARDTIME_NOT_WAITING 7
+/* A reply more than 3600000 ticks after its request. */
+#define BOARDTIME_TOO_LATE 8
+/* A request after 16777215 were sent. */
+#define BOARDTIME_TAGS_SPENT 9
+/* The output is shorter than 256 bytes. */
+#define BOARDTIME_SHORT_OUTPUT 10
+/* The image is not 232 bytes long. Tested before everything else. */
+#define BOARDTIME_WRONG_IMAGE_LENGTH 255
+
+/*
+ * Stores the image of a fresh keeper, one that has not started.
+ *
+ * Returns 0, or 255 with nothing touched.
+ */
+uint8_t boardtime_fresh(uint8_t *image, size_t image_length);
+
+/*
+ * Answers one line, which is given without its LF. The answer, with its LF,
+ * is stored at the front of the output, and no byte after it is touched.
+ *
+ * Returns the number (0, 1 to 10, or 255) and the length of the answer; take
+ * them with BOARDTIME_NUMBER and BOARDTIME_LENGTH. The numbers 10 and 255 come
+ * with length 0 and an untouched output; the numbers 1 to 9 come with the
+ * answer `(no NUMBER)`.
+ */
+uint32_t boardtime_line(uint8_t *image, size_t image_length,
+                        const uint8_t *line, size_t line_length,
+                        uint8_t *out, size_t out_length);
+
+/* The number in what boardtime_line returned. */
+#define BOARDTIME_NUMBER(returned) ((uint8_t)((returned) & 255u))
+/* The length of the answer in what boardtime_line returned. */
+#define BOARDTIME_LENGTH(returned) ((size_t)((returned) >> 8))
+
+/*
+ * Lets ticks pass, as the line `(pass TICKS)` does, without a line.
+ *
+ * Returns 0; 2 if ticks is above 86400000; 3 if the keeper has not started;
+ * 5 if an edge or the ticks would leave their range; or 255.
+ */
+uint8_t boardtime_pass(uint8_t *image, size_t image_length, uint32_t ticks);
+
+#ifdef __cplusplus
+}
+#endif
+
+#endif

@@ -1,0 +1,97 @@
+//! The time keeper of a board, over the proved static library `boardtime_lib`.
+//!
+//! ```
+//! use boardtime::{Keeper, Refusal, OUTPUT_BYTES};
+//!
+//! let mut keeper = Keeper::fresh();
+//! let mut out = [0; OUTPUT_BYTES];
+//! let answer = keeper.answer(b"(start 3 im 200 (-1000 1000))", &mut out);
+//! assert_eq!(answer.number, 0);
+//! assert_eq!(answer.bytes, b"(started 3)\n");
+//! assert_eq!(keeper.pass(10), Ok(()));
+//! assert_eq!(keeper.pass(86_400_001), Err(Refusal::OutsideRange));
+//! ```
+//!
+//! The crate needs no heap and no operating system.
+
+#![no_std]
+
+pub mod image;
+mod refusal;
+
+pub use refusal::Refusal;
+
+/// Length of an image.
+pub const IMAGE_BYTES: usize = 232;
+
+/// Least length of the output for a line. No answer is longer.
+pub const OUTPUT_BYTES: usize = 256;
+
+/// A board's time keeper, held as its image.
+///
+/// Two keepers are equal if all bytes of their images are.
+#[derive(Clone, PartialEq, Eq, Debug)]
+pub struct Keeper {
+    image: [u8; IMAGE_BYTES],
+}
+
+/// What a call with a line returns.
+#[derive(Clone, Copy, PartialEq, Eq, Debug)]
+pub struct Answer<'a> {
+    /// 0 for an accepted line, else the number of the refusal.
+    pub number: u8,
+    /// The answer with its LF; empty if the output was too short.
+    pub bytes: &'a [u8],
+}
+
+impl Keeper {
+    /// A keeper that has not started.
+    pub fn fresh() -> Keeper {
+        let mut image = [0; IMAGE_BYTES];
+        // The image has the right length, so this call is always accepted.
+        image::fresh(&mut image);
+        Keeper { image }
+    }
+
+    /// The keeper of an image that was kept, as over a reset. Any bytes will
+    /// do: those that no keeper can hold count as a keeper not started.
+    pub const fn from_image(image: [u8; IMAGE_BYTES]) -> Keeper {
+        Keeper { image }
+    }
+
+    /// The image to keep; `include/boardtime.h` gives its layout.
+    pub const fn image(&self) -> &[u8; IMAGE_BYTES] {
+        &self.image
+    }
+
+    /// Answers one line, given without its LF, at the front of `out`. No byte
+    /// of `out` after the answer is touched. A refused line leaves the keeper
+    /// as it was.
+    pub fn answer<'a>(&mut self, line: &[u8], out: &'a mut [u8]) -> Answer<'a> {
+        let returned = image::line(&mut self.image, line, out);
+        Answer {
+            number: returned.number,
+            bytes: &out[..returned.length],
+        }
+    }
+
+    /// Lets ticks pass, as `(pass TICKS)` does. A refused pass leaves the
+    /// keeper as it was.
+    pub fn pass(&mut self, ticks: u32) -> Result<(), Refusal> {
+        refusal::result(image::pass(&mut self.image, ticks))
+    }
+}
+
+/// The same as `Keeper::fresh`.
+impl Default for Keeper {
+    fn default() -> Keeper {
+        Keeper::fresh()
+    }
+}
+
+impl Answer<'_> {
+    /// `Ok` for an accepted line, else why it was refused.
+    pub fn result(&self) -> Result<(), Refusal> {
+        refusal::result(self.number)
+    }
+}
