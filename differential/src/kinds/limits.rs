@@ -1,0 +1,225 @@
+//! Numerals at every limit, one past it, and spelled wrongly.
+
+use super::states;
+use crate::fitting;
+use crate::limits::{Image, LAST_CLAIM, LAST_MOMENT, LAST_PASS, SHORTEST_OUTPUT};
+use crate::random::Random;
+use crate::test::Test;
+
+const MIXED_LINES: u64 = 600_000;
+const PASSES: u64 = 20_000;
+
+/// What may stand at one place of a line.
+struct Place {
+    ordinary: &'static [&'static str],
+    at_limits: &'static [&'static str],
+    long: &'static [&'static str],
+}
+
+/// Numerals of the most digits, and of one digit more.
+const LONG: &[&str] = &[
+    "4000000000000000000",
+    "9999999999999999999",
+    "-4000000000000000000",
+    "-9999999999999999999",
+    "10000000000000000000",
+    "-10000000000000000000",
+];
+
+const PEER: Place = Place {
+    ordinary: &["1", "4", "15"],
+    at_limits: &["0", "3", "14", "15", "16", "17", "255", "256", "272"],
+    long: LONG,
+};
+const RULE: Place = Place {
+    ordinary: &["im", "mm"],
+    at_limits: &["i", "m", "imm", "IM", "mi", "im ", "", "0"],
+    long: &["im", "mm"],
+};
+const CLAIM: Place = Place {
+    ordinary: &["200"],
+    at_limits: &[
+        "0", "1", "49999", "50000", "50001", "65535", "65536", "65736",
+    ],
+    long: LONG,
+};
+const TAG: Place = Place {
+    ordinary: &["1", "2"],
+    at_limits: &[
+        "0",
+        "1",
+        "16777214",
+        "16777215",
+        "16777216",
+        "4294967295",
+        "4294967296",
+        "4294967297",
+    ],
+    long: LONG,
+};
+const TICKS: Place = Place {
+    ordinary: &["1", "1000"],
+    at_limits: &[
+        "0",
+        "86399999",
+        "86400000",
+        "86400001",
+        "4294967295",
+        "4294967296",
+        "4381367296",
+    ],
+    long: LONG,
+};
+const EDGE: Place = Place {
+    ordinary: &["-1000", "0", "1000"],
+    at_limits: &[
+        "-1",
+        "1",
+        "3999999999999999999",
+        "4000000000000000000",
+        "4000000000000000001",
+        "-3999999999999999999",
+        "-4000000000000000000",
+        "-4000000000000000001",
+        "9223372036854775807",
+        "9223372036854775808",
+        "-9223372036854775808",
+        "-9223372036854775809",
+        "-9999999999999999999",
+    ],
+    long: LONG,
+};
+
+/// What has no numeral's spelling or breaks every limit: leading zeros, signs,
+/// 19 and 20 digits, bytes beside the digits.
+const ODD: &[&str] = &[
+    "00",
+    "01",
+    "-0",
+    "-00",
+    "-01",
+    "--1",
+    "+1",
+    "-",
+    "",
+    " 1",
+    "1 ",
+    "1x",
+    "x1",
+    "1/",
+    "1:",
+    "1_000",
+    "-1",
+    "9999999999999999999",
+    "10000000000000000000",
+    "00000000000000000001",
+    "0000000000000000001",
+    "18446744073709551615",
+    "18446744073709551616",
+    "18446744073709551617",
+    "-10000000000000000000",
+];
+
+/// The places of each command, with the bytes between them.
+const FORMS: &[(&[&str], &[&Place])] = &[
+    (
+        &["(start ", " ", " ", " (", " ", "))"],
+        &[&PEER, &RULE, &CLAIM, &EDGE, &EDGE],
+    ),
+    (&["(pass ", ")"], &[&TICKS]),
+    (&["(request ", ")"], &[&PEER]),
+    (
+        &["(reply ", " ", " (", " ", "))"],
+        &[&PEER, &TAG, &EDGE, &EDGE],
+    ),
+    (&["(drop ", ")"], &[&PEER]),
+];
+
+pub fn run(test: &mut Test) {
+    let mut random = test.begin("numerals at limits");
+    let states = states::all(test);
+    for state in &states {
+        one_place_at_a_time(test, &mut random, state);
+        long_everywhere(test, state);
+    }
+    for _ in 0..MIXED_LINES {
+        let state = random.pick(&states);
+        let (texts, places) = random.pick(FORMS);
+        let values: Vec<&str> = places
+            .iter()
+            .map(|place| mixed(&mut random, place))
+            .collect();
+        give(test, state, &spell(texts, &values));
+    }
+    for _ in 0..PASSES {
+        pass_to_the_end(test, &mut random);
+    }
+}
+
+/// Every value at every place, with ordinary values elsewhere.
+fn one_place_at_a_time(test: &mut Test, random: &mut Random, state: &Image) {
+    for (texts, places) in FORMS {
+        for (at, place) in places.iter().enumerate() {
+            for value in place.at_limits.iter().chain(ODD) {
+                let mut values: Vec<&str> = places
+                    .iter()
+                    .map(|place| random.pick(place.ordinary))
+                    .collect();
+                values[at] = value;
+                give(test, *state, &spell(texts, &values));
+            }
+        }
+    }
+}
+
+/// Every choice of long numerals for all places. The longest lines that have a
+/// command's shape are among these.
+fn long_everywhere(test: &mut Test, state: &Image) {
+    for (texts, places) in FORMS {
+        let choices: usize = places.iter().map(|place| place.long.len()).product();
+        for choice in 0..choices {
+            let mut rest = choice;
+            let mut values = Vec::new();
+            for place in *places {
+                values.push(place.long[rest % place.long.len()]);
+                rest /= place.long.len();
+            }
+            give(test, *state, &spell(texts, &values));
+        }
+    }
+}
+
+fn mixed(random: &mut Random, place: &Place) -> &'static str {
+    match random.below(20) {
+        0 => random.pick(ODD),
+        1..=7 => random.pick(place.at_limits),
+        _ => random.pick(place.ordinary),
+    }
+}
+
+fn spell(texts: &[&str], values: &[&str]) -> String {
+    let mut line = String::from(texts[0]);
+    for (value, text) in values.iter().zip(&texts[1..]) {
+        line.push_str(value);
+        line.push_str(text);
+    }
+    line
+}
+
+fn give(test: &mut Test, mut state: Image, line: &str) {
+    test.line(&mut state, line.as_bytes(), SHORTEST_OUTPUT);
+}
+
+/// A pass that takes the upper edge just to the end of the range, or one
+/// nanosecond past it.
+fn pass_to_the_end(test: &mut Test, random: &mut Random) {
+    let claim = random.between(0, i64::from(LAST_CLAIM));
+    let ticks = random.between(0, i64::from(LAST_PASS));
+    let past = random.between(-1, 1);
+    let upper = LAST_MOMENT - ticks * (1_000_000 + claim) + past;
+    let start = format!("(start 1 im {claim} ({} {upper}))", upper - 5);
+    let mut image = states::after(test, &[&start]);
+    let pass = format!("(pass {ticks})");
+    test.line(&mut image, pass.as_bytes(), SHORTEST_OUTPUT);
+    test.line(&mut image, b"(read)", fitting::out_length(random));
+}

@@ -1,0 +1,28 @@
+//! The kinds of cases.
+
+mod adoptions;
+mod bytes;
+mod damage;
+mod handmade;
+mod images;
+mod lengths;
+mod limits;
+mod passes;
+mod sessions;
+mod states;
+mod waits;
+
+use crate::test::Test;
+
+pub fn run_all(test: &mut Test) {
+    sessions::run(test);
+    limits::run(test);
+    waits::run(test);
+    adoptions::run(test);
+    damage::run(test);
+    bytes::run(test);
+    lengths::run(test);
+    handmade::run(test);
+    images::run(test);
+    passes::run(test);
+}

@@ -1,0 +1,16 @@
+//! The limits of the specification that the cases are built around. They are
+//! stated here again, because a limit taken from one of the two sides would
+//! not be tested.
+
+pub const LAST_MOMENT: i64 = 4_000_000_000_000_000_000;
+pub const LAST_TICKS: u64 = 4_000_000_000_000_000_000;
+pub const LAST_CLAIM: u16 = 50_000;
+pub const LAST_PASS: u32 = 86_400_000;
+pub const LAST_WAIT: u32 = 3_600_000;
+pub const LAST_TAG: u32 = 16_777_215;
+pub const PEERS: usize = 16;
+pub const LONGEST_LINE: usize = 120;
+pub const SHORTEST_OUTPUT: usize = 256;
+pub const IMAGE_LENGTH: usize = 232;
+
+pub type Image = [u8; IMAGE_LENGTH];

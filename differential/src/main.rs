@@ -1,0 +1,51 @@
+//! Gives the proved library and the independent implementation the same calls
+//! and compares everything that they return and store.
+//!
+//! The optional argument is the seed; without it the run is always the same.
+
+#![forbid(unsafe_code)]
+
+mod answer;
+mod fitting;
+mod kinds;
+mod lent;
+mod limits;
+mod random;
+mod tally;
+mod test;
+
+use std::env;
+use std::process::ExitCode;
+
+use crate::test::Test;
+
+const SEED: u64 = 20_260_101;
+
+fn main() -> ExitCode {
+    let seed = match env::args().nth(1).map(|word| word.parse()) {
+        None => SEED,
+        Some(Ok(seed)) => seed,
+        Some(Err(_)) => {
+            eprintln!("usage: differential [SEED]");
+            return ExitCode::from(2);
+        }
+    };
+    let mut test = Test::new(seed);
+    // A mismatch ends the program.
+    kinds::run_all(&mut test);
+    test.tally.print();
+    let missing = test.tally.missing();
+    println!(
+        "differential: {} lines, 0 mismatches",
+        test.tally.line_count()
+    );
+    if missing.is_empty() {
+        return ExitCode::SUCCESS;
+    }
+    // After the line above, so that it is not the last one of a failed run.
+    for line in &missing {
+        println!("TOO SELDOM: {line}");
+    }
+    println!("differential: FAILED");
+    ExitCode::FAILURE
+}

@@ -1,0 +1,156 @@
+//! What a run has counted, and whether it reached enough of everything.
+
+use crate::answer::word;
+
+/// Everything that has to occur has to occur this often.
+const ENOUGH: u64 = 1000;
+
+/// The numbers that each call can return.
+const LINE_NUMBERS: [u8; 12] = [0, 1, 2, 3, 4, 5, 6, 7, 8, 9, 10, 255];
+const PASS_NUMBERS: [u8; 5] = [0, 2, 3, 5, 255];
+const FRESH_NUMBERS: [u8; 2] = [0, 255];
+
+/// Each command with the numbers, from 0 through 9, that it can be given. A
+/// line with number 1 is no command but may begin like one.
+const COMMANDS: [(&str, &[u8]); 7] = [
+    ("start", &[0, 1, 2, 3]),
+    ("pass", &[0, 1, 2, 3, 5]),
+    ("request", &[0, 1, 2, 3, 4, 6, 9]),
+    ("reply", &[0, 1, 2, 3, 4, 5, 7, 8]),
+    ("drop", &[0, 1, 2, 3, 4, 7]),
+    ("read", &[0, 1, 3]),
+    ("waiting", &[0, 1, 3]),
+];
+
+/// The words of the answers to accepted lines.
+const ANSWERS: [&str; 9] = [
+    "started", "at", "sent", "taken", "kept", "conflict", "dropped", "time", "waiting",
+];
+
+type Numbers = [u64; 256];
+
+pub struct Tally {
+    kinds: Vec<(&'static str, u64)>,
+    lines: Numbers,
+    commands: [Numbers; COMMANDS.len()],
+    answers: [u64; ANSWERS.len()],
+    passes: Numbers,
+    freshes: Numbers,
+}
+
+impl Tally {
+    pub fn new() -> Tally {
+        Tally {
+            kinds: Vec::new(),
+            lines: [0; 256],
+            commands: [[0; 256]; COMMANDS.len()],
+            answers: [0; ANSWERS.len()],
+            passes: [0; 256],
+            freshes: [0; 256],
+        }
+    }
+
+    pub fn begin(&mut self, kind: &'static str) {
+        self.kinds.push((kind, 0));
+    }
+
+    /// The kind that was begun last and its cases so far.
+    pub fn kind(&self) -> (&'static str, u64) {
+        *self.kinds.last().expect("a kind has begun")
+    }
+
+    pub fn kinds_begun(&self) -> u64 {
+        self.kinds.len() as u64
+    }
+
+    pub fn case(&mut self) {
+        self.kinds.last_mut().expect("a kind has begun").1 += 1;
+    }
+
+    pub fn line(&mut self, line: &[u8], number: u8, answer: &[u8]) {
+        let number = usize::from(number);
+        self.lines[number] += 1;
+        let command = word(line);
+        if let Some(at) = COMMANDS
+            .iter()
+            .position(|(name, _)| command == Some(name.as_bytes()))
+        {
+            self.commands[at][number] += 1;
+        }
+        let answer = word(answer);
+        if let Some(at) = ANSWERS
+            .iter()
+            .position(|name| answer == Some(name.as_bytes()))
+        {
+            self.answers[at] += 1;
+        }
+    }
+
+    pub fn pass(&mut self, number: u8) {
+        self.passes[usize::from(number)] += 1;
+    }
+
+    pub fn fresh(&mut self, number: u8) {
+        self.freshes[usize::from(number)] += 1;
+    }
+
+    /// How many lines were given to both sides.
+    pub fn line_count(&self) -> u64 {
+        self.lines.iter().sum()
+    }
+
+    pub fn print(&self) {
+        println!("cases of each kind:");
+        for (kind, count) in &self.kinds {
+            println!("  {count:>8}  {kind}");
+        }
+        println!("calls by the number returned:");
+        print_numbers("boardtime_line", &self.lines);
+        print_numbers("boardtime_pass", &self.passes);
+        print_numbers("boardtime_fresh", &self.freshes);
+        println!("lines by the word that they begin with and the number returned:");
+        for ((command, _), counts) in COMMANDS.iter().zip(&self.commands) {
+            print_numbers(command, counts);
+        }
+        println!("accepted lines by the word of the answer:");
+        for (answer, count) in ANSWERS.iter().zip(&self.answers) {
+            println!("  {count:>8}  {answer}");
+        }
+    }
+
+    /// What occurred too seldom for the run to say anything of it.
+    pub fn missing(&self) -> Vec<String> {
+        let mut missing = Vec::new();
+        let mut ask = |name: &str, numbers: &[u8], counts: &Numbers| {
+            for &number in numbers {
+                if counts[usize::from(number)] < ENOUGH {
+                    missing.push(format!("{name} returned {number} less than {ENOUGH} times"));
+                }
+            }
+        };
+        ask("boardtime_line", &LINE_NUMBERS, &self.lines);
+        ask("boardtime_pass", &PASS_NUMBERS, &self.passes);
+        ask("boardtime_fresh", &FRESH_NUMBERS, &self.freshes);
+        for ((command, numbers), counts) in COMMANDS.iter().zip(&self.commands) {
+            ask(command, numbers, counts);
+        }
+        for (answer, &count) in ANSWERS.iter().zip(&self.answers) {
+            if count < ENOUGH {
+                missing.push(format!("less than {ENOUGH} answers `{answer}`"));
+            }
+        }
+        missing
+    }
+}
+
+fn print_numbers(name: &str, counts: &Numbers) {
+    print!("  {name}:");
+    let mut between = " ";
+    for (number, count) in counts.iter().enumerate() {
+        if *count > 0 {
+            print!("{between}{number} {count} times");
+            between = ", ";
+        }
+    }
+    println!();
+}

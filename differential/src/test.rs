@@ -1,0 +1,235 @@
+//! One call made on both sides, and everything that may not differ.
+
+use std::fmt;
+use std::process;
+
+use boardtime::image as library;
+
+use crate::answer;
+use crate::lent::{Lent, Pattern, PLACES, WHOLE};
+use crate::random::Random;
+use crate::tally::Tally;
+
+/// A call with its arguments, but for the image.
+#[derive(Clone, Copy)]
+enum Call<'a> {
+    Line { line: &'a [u8], out_length: usize },
+    Pass { ticks: u32 },
+    Fresh,
+}
+
+/// What a call returns; only a line has an answer.
+#[derive(Clone, Copy, PartialEq, Eq)]
+pub struct Returned {
+    pub number: u8,
+    pub length: usize,
+}
+
+/// The buffers that one side is lent.
+#[derive(Clone)]
+struct Side {
+    image: Lent,
+    line: Lent,
+    out: Lent,
+}
+
+/// A call as it went: the buffers before it, and each side after it.
+struct Outcome {
+    before: Side,
+    library: Side,
+    library_returned: Returned,
+    independent: Side,
+    independent_returned: Returned,
+}
+
+pub struct Test {
+    seed: u64,
+    /// For the pattern and the places of the buffers.
+    random: Random,
+    pub tally: Tally,
+}
+
+impl Test {
+    pub fn new(seed: u64) -> Test {
+        Test {
+            seed,
+            random: Random::new(seed),
+            tally: Tally::new(),
+        }
+    }
+
+    /// Begins the next kind of cases and gives it a generator of its own, so
+    /// that a change of one kind leaves the cases of the others as they are.
+    pub fn begin(&mut self, kind: &'static str) -> Random {
+        self.tally.begin(kind);
+        let seed = Random::new(self.seed ^ self.tally.kinds_begun()).next();
+        self.random = Random::new(!seed);
+        Random::new(seed)
+    }
+
+    /// Gives both sides a line. `image` becomes what they leave.
+    pub fn line(&mut self, image: &mut [u8], line: &[u8], out_length: usize) -> Returned {
+        let (returned, side) = self.call(image, Call::Line { line, out_length });
+        let answer = &side.out.bytes()[..returned.length];
+        self.tally.line(line, returned.number, answer);
+        returned
+    }
+
+    /// Gives both sides a pass by number.
+    pub fn pass(&mut self, image: &mut [u8], ticks: u32) -> u8 {
+        let (returned, _) = self.call(image, Call::Pass { ticks });
+        self.tally.pass(returned.number);
+        returned.number
+    }
+
+    /// Asks both sides for the image of a fresh keeper.
+    pub fn fresh(&mut self, image: &mut [u8]) -> u8 {
+        let (returned, _) = self.call(image, Call::Fresh);
+        self.tally.fresh(returned.number);
+        returned.number
+    }
+
+    fn call(&mut self, image: &mut [u8], call: Call) -> (Returned, Side) {
+        self.tally.case();
+        let before = self.lend(image, call);
+        let mut library = before.clone();
+        let library_returned = call_library(&mut library, call);
+        let mut independent = before.clone();
+        let independent_returned = call_independent(&mut independent, call);
+        let outcome = Outcome {
+            before,
+            library,
+            library_returned,
+            independent,
+            independent_returned,
+        };
+        if let Err(difference) = outcome.compare() {
+            self.report(difference, call, &outcome);
+            process::exit(1);
+        }
+        image.copy_from_slice(outcome.library.image.bytes());
+        (library_returned, outcome.library)
+    }
+
+    fn lend(&mut self, image: &[u8], call: Call) -> Side {
+        let mut pattern: Pattern = [0; WHOLE];
+        self.random.fill(&mut pattern);
+        let (line, out_length) = match call {
+            Call::Line { line, out_length } => (line, out_length),
+            Call::Pass { .. } | Call::Fresh => (&[][..], 0),
+        };
+        Side {
+            image: Lent::holding(&pattern, self.random.place(PLACES), image),
+            line: Lent::holding(&pattern, self.random.place(PLACES), line),
+            out: Lent::new(&pattern, self.random.place(PLACES), out_length),
+        }
+    }
+
+    fn report(&self, difference: &str, call: Call, outcome: &Outcome) {
+        let (kind, case) = self.tally.kind();
+        println!("MISMATCH: {difference}");
+        println!("seed {}, case {case} of kind '{kind}'", self.seed);
+        println!("call: {call}");
+        println!("image before: {}", hex(outcome.before.image.bytes()));
+        for (name, side, returned) in [
+            ("library", &outcome.library, outcome.library_returned),
+            (
+                "independent",
+                &outcome.independent,
+                outcome.independent_returned,
+            ),
+        ] {
+            let length = returned.length.min(side.out.bytes().len());
+            println!(
+                "{name}: number {}, length {}",
+                returned.number, returned.length
+            );
+            println!("  answer: {}", side.out.bytes()[..length].escape_ascii());
+            println!("  output: {}", hex(side.out.bytes()));
+            println!("  image:  {}", hex(side.image.bytes()));
+        }
+    }
+}
+
+impl Outcome {
+    fn compare(&self) -> Result<(), &'static str> {
+        let Returned { number, length } = self.independent_returned;
+        if self.library_returned.number != number {
+            return Err("the numbers differ");
+        }
+        if self.library_returned.length != length {
+            return Err("the lengths of the answers differ");
+        }
+        let left = &self.library.out.bytes()[..length];
+        if !answer::same(left, &self.independent.out.bytes()[..length]) {
+            return Err("the answers differ");
+        }
+        for side in [&self.library, &self.independent] {
+            if !side.out.equals_after(length, &self.before.out) {
+                return Err("a byte beside the answer was touched");
+            }
+            if number != 0 && side.image != self.before.image {
+                return Err("a refused call changed the image");
+            }
+            if side.line != self.before.line {
+                return Err("the line was changed");
+            }
+        }
+        if self.library.image != self.independent.image {
+            return Err("the images, or the bytes around them, differ");
+        }
+        Ok(())
+    }
+}
+
+fn call_library(side: &mut Side, call: Call) -> Returned {
+    let image = side.image.bytes_mut();
+    let number = match call {
+        Call::Line { .. } => {
+            let returned = library::line(image, side.line.bytes(), side.out.bytes_mut());
+            return Returned {
+                number: returned.number,
+                length: returned.length,
+            };
+        }
+        Call::Pass { ticks } => library::pass(image, ticks),
+        Call::Fresh => library::fresh(image),
+    };
+    Returned { number, length: 0 }
+}
+
+fn call_independent(side: &mut Side, call: Call) -> Returned {
+    let image = side.image.bytes_mut();
+    let number = match call {
+        Call::Line { .. } => {
+            let answered =
+                independent::answer_image(image, side.line.bytes(), side.out.bytes_mut());
+            return Returned {
+                number: answered.number,
+                length: answered.length,
+            };
+        }
+        Call::Pass { ticks } => independent::pass_image(image, ticks),
+        Call::Fresh => independent::fresh_image(image),
+    };
+    Returned { number, length: 0 }
+}
+
+impl fmt::Display for Call<'_> {
+    fn fmt(&self, f: &mut fmt::Formatter<'_>) -> fmt::Result {
+        match self {
+            Call::Line { line, out_length } => write!(
+                f,
+                "line `{}` of {} bytes, output of {out_length} bytes",
+                line.escape_ascii(),
+                line.len()
+            ),
+            Call::Pass { ticks } => write!(f, "pass {ticks} by number"),
+            Call::Fresh => write!(f, "fresh"),
+        }
+    }
+}
+
+fn hex(bytes: &[u8]) -> String {
+    bytes.iter().map(|byte| format!("{byte:02x}")).collect()
+}
