@@ -1,5 +1,5 @@
 // The keeper for firmware in C and Rust: functions on numbers and lent bytes. The keeper crosses as an image (crate `image`), which a board
-// may keep over a reset. A caller's buffers do not overlap; nothing else is asked of it.
+// may keep over a reset. What a caller owes is in include/boardtime.h: valid buffers that do not overlap and that nothing else uses meanwhile.
 use image::is_image;
 use image::load::load;
 use image::store::store;

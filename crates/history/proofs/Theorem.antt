@@ -1,7 +1,7 @@
 -- Demand 3 holds of every list of lines.
 use mathlib.Core.Path.{_≡_, refl, sym, _∙_, ap, subst}
-use mathlib.Core.Bool.{true}
-use mathlib.Core.List.{List}
+use mathlib.Core.Bool.{true, false}
+use mathlib.Core.List.{List, [], _∷_, _++_}
 use mathlib.Core.Logic.{_↔_}
 use Prim.Native.Nat.{ℕ, zero, suc, _+_}
 use native.Mathlib.Omega.{arith}
@@ -15,7 +15,8 @@ use Rattle.keeper.proofs.Bits.{bit-beyond}
 use Rattle.history.specs.Log.{Input, Log, logStart, logAfter}
 use Rattle.history.specs.Course.{noCourse, coursesAfter}
 use Rattle.history.specs.Demand3.{keeperThrough, IsTheLog, Demand3}
-use Rattle.keeper.proofs.Kept.{fresh-sized, fresh-not-started}
+use Rattle.line.specs.Call.{keeperAfter}
+use Rattle.keeper.proofs.Kept.{Sized, fresh-sized, fresh-not-started}
 use Rattle.history.proofs.States.{fresh-state}
 use Rattle.history.proofs.Invariant.{Lands, Counts, counts, clash}
 use Rattle.history.proofs.Lines.{lines-land}
@@ -104,3 +105,15 @@ demand-3 inputs =
       im = equal-under-im l k stands h;
       mm = λ on rule. h .holds .follows .within;
     }
+
+-- What a list of lines leaves: the sizes of the machine's fields, and a fresh keeper as long as none counts as started.
+pub through-kept : (inputs : List Input) → let k = keeperThrough fresh inputs in Sized k × (countsAsStarted k ≡ false → k ≡ fresh)
+through-kept inputs =
+    let h = lines-land logStart fresh noCourse start-lands inputs .holds in
+    (h .sized, h .unstarted)
+
+pub through-more : (k : Keeper) (inputs : List Input) (i : Input)
+    → keeperThrough k (inputs ++ i ∷ []) ≡ keeperAfter (keeperThrough k inputs) (i .line) (i .room)
+unfolding keeperThrough
+through-more k [] i = refl
+through-more k (j ∷ inputs) i = through-more (keeperAfter k (j .line) (j .room)) inputs i

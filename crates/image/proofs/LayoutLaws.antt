@@ -1,4 +1,4 @@
--- The laws of the layout: what can be read has the length, and a keeper's image is read as that keeper.
+-- The laws of the layout: what an image that can be read has, and the length of a keeper's image.
 use mathlib.Core.Path.{_≡_, refl, ap, _∙_}
 use mathlib.Core.Bool.{Bool, true, false, _&&_}
 use mathlib.Core.List.{List}

@@ -100,7 +100,7 @@ abbrev pub AllBelow : ℕ → List ℕ → Type 0
 AllBelow bound [] = Unit {0}
 AllBelow bound (n ∷ ns) = (n < bound) × AllBelow bound ns
 
--- The numbers fit the fields that the struct has for them, as those of every keeper that the code holds do.
+-- The numbers fit the fields that the struct has for them. Those of every keeper that a run of lines makes do (`kept-read-back`).
 pub record Fitting (k : Keeper) : Type 0 where
   pub board : k .board < 256
   pub claim : k .claim < 256 ^ 2

@@ -88,7 +88,7 @@ fn load_all(image: &[u8]) -> Keeper
     }
 }
 
-// An image that can't be read is no started keeper's.
+// An image that can't be read gives a fresh keeper.
 pub fn load(image: &[u8]) -> Keeper
     ensures { λ r. ⌜ r ≡ keeperIn (now (image .entry)) ⌝ }
 {

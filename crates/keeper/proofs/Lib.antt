@@ -10,3 +10,4 @@ pub mod CallLaws
 pub mod EdgeLaws
 pub mod SettlingLaws
 pub mod LentLaws
+pub mod Returned

@@ -4,6 +4,7 @@ use mathlib.Core.Path.{_≡_, refl, ap}
 use mathlib.Core.Bool.{Bool, true, false}
 use mathlib.Core.List.{List, _∷_}
 use Prim.Native.Nat.{ℕ, _+_, _≤_}
+use native.Mathlib.Nat.{le-trans}
 use native.Mathlib.Omega.{arith}
 use borrow.Author.Tests.{ltb-true, ltb-false}
 use lib.Dec.{ltb}
@@ -11,12 +12,15 @@ use lib.ListN.{length, drop, length-append}
 use Rattle.command.specs.declared.Reading.{Reading}
 use Rattle.command.specs.declared.Reading.the-variants.{Accepted, NoShape, OutsideLimits}
 use Rattle.reader.specs.Reading.{readingOf}
-use Rattle.keeper.specs.State.{countsAsStarted}
+use Rattle.moment.proofs.Integers.{by-test}
+use Rattle.keeper.specs.State.{countsAsStarted, stateOf}
+use Rattle.keeper.specs.Apply.{numberOf}
 use Rattle.keeper.specs.declared.Keeper.{Keeper}
 use Rattle.keeper.specs.declared.Answer.{Answer}
 use Rattle.keeper.specs.declared.Answer.the-variants as A
 use Rattle.keeper.proofs.Listing.{listed-started}
-use Rattle.line.specs.Call.{leastOutput, byReading, answered, Wrote, Called}
+use Rattle.keeper.proofs.Returned.{apply-number, refusal-most, refused-keeps}
+use Rattle.line.specs.Call.{leastOutput, byReading, answered, numberAfter, keeperAfter, Wrote, Called}
 
 pub listed : (k : Keeper) (line : List ℕ) → answered k line .answer ≡ A.Waiting → countsAsStarted (answered k line .keeper) ≡ true
 unfolding answered
@@ -38,3 +42,29 @@ called-short {before = before} {n = n} c = by-room (ltb (length before) leastOut
     by-room : (t : Bool) → ltb (length before) leastOutput ≡ t → n ≤ leastOutput
     by-room true e = omega (arith, c .untouched (ltb-true (length before) leastOutput e) .1)
     by-room false e = c .written (ltb-false (length before) leastOutput e) .short
+
+-- ---- the number returned
+
+module _ (k : Keeper) (line : List ℕ) where
+  read-most : (r : Reading) → numberOf (byReading r k .answer) ≤ 9
+  read-most (Accepted c) = rw (apply-number k c) (refusal-most (stateOf k) c)
+  read-most NoShape = omega arith
+  read-most OutsideLimits = omega arith
+
+  -- no call returns a number above 10
+  pub number-most : (room : ℕ) → numberAfter k line room ≤ 10
+  unfolding numberAfter answered
+  number-most room =
+      by-test (ltb room leastOutput) (λ t. rw t (omega arith)) (λ t. rw t (le-trans (read-most (readingOf line)) (omega arith)))
+
+  read-keeps : (r : Reading) → (numberOf (byReading r k .answer) ≡ 0 → ⊥) → byReading r k .keeper ≡ k
+  read-keeps (Accepted c) h = refused-keeps k c h
+  read-keeps NoShape h = refl
+  read-keeps OutsideLimits h = refl
+
+  -- a refused call leaves the keeper as it was
+  pub refused-leaves : (room : ℕ) → (numberAfter k line room ≡ 0 → ⊥) → keeperAfter k line room ≡ k
+  unfolding numberAfter keeperAfter answered
+  refused-leaves room =
+      by-test {P = (numberAfter k line room ≡ 0 → ⊥) → keeperAfter k line room ≡ k} (ltb room leastOutput)
+      (λ t h. rw t) (λ t h. rw t (read-keeps (readingOf line) (λ e. h (rw t e))))

@@ -167,15 +167,16 @@ abbrev pub judged : Option Form → Reading
 judged none = NoShape
 judged (some f) = limited f
 
--- A form's word, and the place after it.
+-- A form's word, and the place after it; `Unknown`, and the place that was looked at.
 abbrev pub wordThen : FormWord → ℕ → WordAt
 wordThen w next = record { 0 = w; 1 = next }
 
--- The word of the first shape whose text stands at the place, with the place after it.
+-- The word, if its text was found, or what comes otherwise.
 abbrev pub takenWord : Word → FormWord → WordAt → WordAt
 takenWord (After next) w otherwise = wordThen w next
 takenWord Other w otherwise = otherwise
 
+-- The word of the first shape whose text stands at the place, with the place after it.
 unfoldable pub wordOf : List Shape → List ℕ → ℕ → WordAt
 wordOf [] line at = wordThen W.Unknown at
 wordOf (s ∷ ss) line at = takenWord (wordAt line at (bytes (s .word))) (s .named) (wordOf ss line at)

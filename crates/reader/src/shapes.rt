@@ -24,7 +24,7 @@ pub enum FormWord {
     Unknown,
 }
 
-// A form's word, and the place after it.
+// A form's word, and the place after it; `Unknown`, and the place that was looked at.
 pub struct WordAt(pub FormWord, pub usize);
 
 // The form whose word stands at a place, the commonest first.

@@ -1,4 +1,4 @@
-// The walk along a line: a struct that refers to the line, with the place that it has come to. Each function takes the struct apart
+// The walk along a line: a struct that refers to the line, with the place that it has come to. What reads bytes takes the struct apart
 // and leaves the work to a function on a slice and a place.
 use crate::shapes::FormWord;
 use crate::shapes::WordAt;
