@@ -1,10 +1,10 @@
 /*
  * boardtime: the time keeper of a board, as a static library.
  *
- * The keeper is an image: an array of 232 bytes that the caller owns. Each
- * call reads the image, answers, and stores the image of the keeper after the
- * call. The library holds nothing between calls, allocates nothing and calls
- * nothing but memcpy. Calls on different images may run at the same time.
+ * The keeper is an image: an array of 232 bytes that the caller owns. A call
+ * reads the image and answers; an accepted one stores the image of the keeper
+ * after it, and a refused one leaves every byte as it was. The library holds
+ * nothing between calls, allocates nothing and calls nothing but memcpy.
  *
  * Link with target/staticlib/libboardtime_lib.a, which the command
  * `rt staticlib boardtime_lib` proves and builds. The archive is for x86-64.
@@ -13,7 +13,12 @@
  *   - every pointer is valid for the length that is passed with it, and is not
  *     null even where that length is 0;
  *   - the image and the output of a call do not overlap, and neither overlaps
- *     the line.
+ *     the line;
+ *   - from entry to return nothing else writes the three buffers, or reads the
+ *     image or the output. So no interrupt makes a call on an image that it
+ *     may find in the middle of another call: it counts its ticks, and the
+ *     main loop passes them. Calls on images and outputs that differ may run
+ *     at the same time.
  * Nothing else is asked. Every call answers for all bytes, all lengths and all
  * numbers.
  *
@@ -31,12 +36,20 @@
  *   24..31     ticks since the start
  *   32..35     requests sent since the start
  *   36..39     conflicts
- *   40..103    the tag of each peer's request, 4 bytes for each of 16 peers
- *   104..231   the tick count at each peer's request, 8 bytes for each peer
+ *   40..103    the tags: that of peer p's request in 4 bytes from 40 + 4 p
+ *   104..231   the tick counts: that of peer p's request in 8 bytes from
+ *              104 + 8 p
  *
  * An image whose byte 0 is not 1, or whose byte 1 or byte 3 is above 1, counts
- * as not started, and so does one whose numbers no keeper can hold. A keeper
- * that counts as not started accepts `(start ...)` alone.
+ * as not started. So does one whose byte 1 is 0, and one that breaks any of
+ * these: the board is at most 15 and the claim at most 50000; the edges are in
+ * order and from -4000000000000000000 through 4000000000000000000; the ticks
+ * are at most 4000000000000000000 and the requests at most 16777215; conflicts
+ * and waiting peers together are at most the requests; the board's own bit is
+ * clear; a waiting peer's tag is 1 through the requests, no other waiting
+ * peer's, and its tick count at most the ticks; every other place, the board's
+ * own too, holds 0 for both. A keeper that counts as not started accepts
+ * `(start ...)` alone.
  *
  * A board may keep the image in FRAM and go on with it after a reset. It then
  * owes the keeper the ticks that passed meanwhile: without them the edges need

@@ -10,7 +10,7 @@ pub const WRONG_LENGTH: u8 = 255;
 pub struct Returned {
     /// 0 for an accepted line, the number of the refusal, or `WRONG_LENGTH`.
     pub number: u8,
-    /// Length of the answer with its LF.
+    /// Length of the answer with its LF; 0 for the numbers 10 and 255.
     pub length: usize,
 }
 
