@@ -1,12 +1,13 @@
 -- Laws of the mask of waiting peers, bit by bit, and of tests over the sixteen peers.
 use mathlib.Core.Path.{_≡_, refl, sym, ap, _∙_}
-use mathlib.Core.Bool.{Bool, true, false}
-use Prim.Native.Nat.{ℕ, zero, suc, _+_, _-_, _/_, _%_, _^_, _<_, _≤_}
+use mathlib.Core.Bool.{Bool, true, false, _&&_, and-true}
+use Prim.Native.Nat.{ℕ, zero, suc, _+_, _-_, _*_, _/_, _%_, _^_, _<_, _≤_, min}
 use native.Mathlib.Nat.{pow-suc, div-one}
 use native.Mathlib.Omega.{arith}
-use borrow.Author.Tests.{eq-eqb, ne-eqb, eqb-true, eqb-false}
-use lib.Dec.{eqb, eqb·suc-suc}
-use lib.Count.{ones, ones-step, ones-le}
+use borrow.Author.Tests.{leb-true, leb-false, eq-eqb, ne-eqb, eqb-true, eqb-false}
+use lib.Dec.{leb, eqb, eqb·suc-suc}
+use lib.Bits.{bitAnd, and-step, and-self}
+use lib.Count.{ones, ones-step, ones-le, trailingZeros, under}
 use lib.Pow.{shr-shr}
 pub use Rattle.rules.proofs.Tests.{both, join, clash}
 use Rattle.text.specs.Words.{choose}
@@ -55,10 +56,25 @@ bit-beyond zero m (suc p) h l = bit-suc m p ∙ bit-beyond zero (m / 2) p (omega
 bit-beyond (suc n) m zero h l = absurd (omega arith)
 bit-beyond (suc n) m (suc p) h l = bit-suc m p ∙ bit-beyond n (m / 2) p (omega (arith, pow-suc 2 n)) (omega arith)
 
+pub bit-within : (n m p : ℕ) → m < 2 ^ n → bitOf m p ≡ true → p < n
+bit-within n m p h e = go (leb n p) refl
+  where
+    go : (t : Bool) → leb n p ≡ t → p < n
+    go true d = absurd (clash e (bit-beyond n m p h (leb-true n p d)))
+    go false d = leb-false n p d
+
 below : (p n : ℕ) → (p ≡ n → ⊥) → p < suc n → p < n
 below p n d h = omega (arith, d)
 
 -- ---- a bit set, and a bit cleared
+
+pub put-same : {A : Type 0} (f : ℕ → A) (p : ℕ) (a : A) → put f p a p ≡ a
+unfolding put
+put-same f p a = rw (eq-eqb p p refl)
+
+pub put-other : {A : Type 0} (f : ℕ → A) (p : ℕ) (a : A) (q : ℕ) → (q ≡ p → ⊥) → put f p a q ≡ f q
+unfolding put
+put-other f p a q d = rw (ne-eqb q p d)
 
 same-zero : (m k : ℕ) → m % 2 ≡ k % 2 → bitOf m 0 ≡ bitOf k 0
 same-zero m k e = bit-zero m ∙ ap (λ (x : ℕ). eqb x 1) e ∙ sym (bit-zero k)
@@ -97,6 +113,33 @@ bit-cleared m (suc p) e q =
     let first : (m - 2 ^ suc p) % 2 ≡ m % 2 = omega (arith, pow-suc 2 p) in
     by-place m (m - 2 ^ suc p) p false first (λ q. ap (λ (x : ℕ). bitOf x q) half ∙ bit-cleared (m / 2) p (sym (bit-suc m p) ∙ e) q) q
 
+-- ---- the lowest bit that is set: its place is the count of the zeros below it, and `m & (m - 1)` clears it
+
+pub lowest-set : (n m : ℕ) → 0 < m → m < 2 ^ n → (trailingZeros n m < n) × (bitOf m (trailingZeros n m) ≡ true)
+unfolding trailingZeros
+lowest-set zero m h l = absurd (omega arith)
+lowest-set (suc n) m h l = go (m % 2) refl (λ some. lowest-set n (m / 2) some (omega (arith, pow-suc 2 n)))
+  where
+    go : (r : ℕ) → m % 2 ≡ r → (0 < m / 2 → (trailingZeros n (m / 2) < n) × (bitOf (m / 2) (trailingZeros n (m / 2)) ≡ true))
+        → (under r (trailingZeros n (m / 2)) < suc n) × (bitOf m (under r (trailingZeros n (m / 2))) ≡ true)
+    go zero e next = let (place, set) = next (omega arith) in (omega arith, bit-suc m (trailingZeros n (m / 2)) ∙ set)
+    go (suc r) e next = (omega arith, bit-zero m ∙ eq-eqb (m % 2) 1 (omega arith))
+
+pub lowest-cleared : (n m : ℕ) → 0 < m → m < 2 ^ n → bitAnd m (m - 1) ≡ m - 2 ^ trailingZeros n m
+unfolding trailingZeros
+lowest-cleared zero m h l = absurd (omega arith)
+lowest-cleared (suc n) m h l = and-step m (m - 1) ∙ go (m % 2) refl (λ some. lowest-cleared n (m / 2) some (omega (arith, pow-suc 2 n)))
+  where
+    go : (r : ℕ) → m % 2 ≡ r → (0 < m / 2 → bitAnd (m / 2) (m / 2 - 1) ≡ m / 2 - 2 ^ trailingZeros n (m / 2))
+        → bitAnd (m / 2) ((m - 1) / 2) * 2 + min r ((m - 1) % 2) ≡ m - 2 ^ under r (trailingZeros n (m / 2))
+    go zero e next =
+        let half : (m - 1) / 2 ≡ m / 2 - 1 = omega arith in
+        rw (half, next (omega arith)) (omega (arith, pow-suc 2 (trailingZeros n (m / 2))))
+    go (suc r) e next =
+        let half : (m - 1) / 2 ≡ m / 2 = omega arith in
+        let even-before : (m - 1) % 2 ≡ 0 = omega arith in
+        rw (half, and-self (m / 2), even-before) (omega arith)
+
 -- ---- tests over the peers
 
 pub all-at : (n : ℕ) (test : ℕ → Bool) → allBelow n test ≡ true → (p : ℕ) → p < n → test p ≡ true
@@ -115,6 +158,17 @@ pub all-made : (n : ℕ) (test : ℕ → Bool) → ((p : ℕ) → p < n → test
 unfolding allBelow
 all-made zero test h = refl
 all-made (suc n) test h = rw (all-made n test (λ p l. h p (omega arith)), h n (omega arith))
+
+-- where it does not hold of every number, it fails at one
+pub all-found : (n : ℕ) (test : ℕ → Bool) → allBelow n test ≡ false → (p : ℕ) × (p < n) × (test p ≡ false)
+unfolding allBelow
+all-found zero test e = absurd (clash refl e)
+all-found (suc n) test e = go (test n) refl e (all-found n test)
+  where
+    go : (t : Bool) → test n ≡ t → allBelow n test && t ≡ false → (allBelow n test ≡ false → (p : ℕ) × (p < n) × (test p ≡ false))
+        → (p : ℕ) × (p < suc n) × (test p ≡ false)
+    go false d e next = (n, omega arith, d)
+    go true d e next = let (p, l, f) = next (sym (and-true (allBelow n test)) ∙ e) in (p, omega arith, f)
 
 pub all-broken : (n : ℕ) (test : ℕ → Bool) (p : ℕ) → p < n → test p ≡ false → allBelow n test ≡ false
 all-broken n test p h e = go (allBelow n test) refl

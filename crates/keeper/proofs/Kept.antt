@@ -3,7 +3,7 @@ use mathlib.Core.Path.{_≡_, refl, sym, ap, _∙_}
 use mathlib.Core.Bool.{Bool, true, false, not, _&&_, _||_}
 use Prim.Native.Nat.{ℕ, _+_, _^_, _<_, _≤_}
 use native.Mathlib.Omega.{arith}
-use borrow.Author.Tests.{leb-true, le-leb, eqb-true, eqb-false, eq-eqb, ne-eqb, not-true}
+use borrow.Author.Tests.{leb-true, le-leb, eqb-true, eqb-false, not-true}
 use lib.Dec.{leb, eqb}
 use lib.ListN.{length, getD, set, length-set, getD-replicate}
 use lib.Seq.{getD-set-same, getD-set-other}
@@ -14,7 +14,8 @@ use Rattle.command.specs.declared.Command.the-variants as C
 use Rattle.keeper.specs.State.{mostTicks, mostRequests, bitOf, allBelow, countBelow, one, put, peerKept, tagsApart, countsAsStarted, fresh}
 use Rattle.keeper.specs.Apply.{begun, at, asked, ended}
 use Rattle.keeper.specs.declared.Keeper.{Keeper}
-use Rattle.keeper.proofs.Bits.{both, join, clash, bit-set, bit-cleared, bit-room, bit-beyond, count-same, count-put, all-at, all-made}
+use Rattle.keeper.proofs.Bits.{both, join, clash, bit-set, bit-cleared, bit-room, bit-beyond, put-same, put-other, count-same, count-put, all-at, all-made}
+use Rattle.keeper.proofs.PeerLaws.{apart-read, apart-made}
 
 -- ---- the clauses of 'counts as started'
 
@@ -79,23 +80,8 @@ peer-made k p h = go (bitOf (k .waiting) p) refl
         let o = h .rests e in
         rw (e, o .tag, o .sent)
 
-apart-read : (k : Keeper) (p q : ℕ) → tagsApart k p q ≡ true → bitOf (k .waiting) p ≡ true → bitOf (k .waiting) q ≡ true → getD (k .tags) p 0 ≡ getD (k .tags) q 0 → ⊥
-unfolding tagsApart
-apart-read k p q e hp hq same =
-    eqb-false (getD (k .tags) p 0) (getD (k .tags) q 0) (not-true _ (rw (hp, hq) at e)) same
-
-apart-made : (k : Keeper) (p q : ℕ) → (bitOf (k .waiting) p ≡ true → bitOf (k .waiting) q ≡ true → getD (k .tags) p 0 ≡ getD (k .tags) q 0 → ⊥) → tagsApart k p q ≡ true
-unfolding tagsApart
-apart-made k p q h = go (bitOf (k .waiting) p) (bitOf (k .waiting) q) refl refl
-  where
-    go : (s t : Bool) → bitOf (k .waiting) p ≡ s → bitOf (k .waiting) q ≡ t → tagsApart k p q ≡ true
-    go true true d e = rw (d, e, ne-eqb (getD (k .tags) p 0) (getD (k .tags) q 0) (h d e))
-    go true false d e = rw (d, e)
-    go false true d e = rw d
-    go false false d e = rw d
-
 pub clauses : (k : Keeper) → countsAsStarted k ≡ true → Clauses k
-unfolding countsAsStarted boardWithin claimWithin
+unfolding countsAsStarted boardWithin claimWithin tagsApart
 clauses k e =
     let (h0, e) = both _ _ e in
     let (h1, e) = both _ _ e in
@@ -116,11 +102,11 @@ clauses k e =
       count = leb-true _ _ h6;
       itself = not-true _ h7;
       peers = λ p l. peer-read k p (all-at 16 (peerKept k) h8 p l);
-      apart = λ p q l m. apart-read k p q (all-at p (tagsApart k p) (all-at 16 (λ p. allBelow p (tagsApart k p)) h9 p l) q m);
+      apart = λ p q l m. apart-read (k .waiting) (k .tags) p q (all-at p (tagsApart k p) (all-at 16 (λ p. allBelow p (tagsApart k p)) h9 p l) q m);
     }
 
 pub counted : {k : Keeper} → Clauses k → countsAsStarted k ≡ true
-unfolding countsAsStarted boardWithin claimWithin
+unfolding countsAsStarted boardWithin claimWithin tagsApart
 counted {k} c =
     join (c .started)
     (join (le-leb _ _ (c .board))
@@ -131,7 +117,7 @@ counted {k} c =
     (join (le-leb _ _ (c .count))
     (join (ap not (c .itself))
     (join (all-made 16 (peerKept k) (λ p l. peer-made k p (c .peers p l)))
-    (all-made 16 (λ p. allBelow p (tagsApart k p)) (λ p l. all-made p (tagsApart k p) (λ q m. apart-made k p q (c .apart p q l m))))))))))))
+    (all-made 16 (λ p. allBelow p (tagsApart k p)) (λ p l. all-made p (tagsApart k p) (λ q m. apart-made (k .waiting) (k .tags) p q (c .apart p q l m))))))))))))
 
 -- ---- the sizes of the machine's fields
 
@@ -172,14 +158,6 @@ record Changed (k l : Keeper) (p : ℕ) (waits : Bool) (tag sent : ℕ) : Type 0
   bits : (q : ℕ) → bitOf (l .waiting) q ≡ put (bitOf (k .waiting)) p waits q
   tags : l .tags ≡ set (k .tags) p tag
   sents : l .«sent_at» ≡ set (k .«sent_at») p sent
-
-put-same : {A : Type 0} (f : ℕ → A) (p : ℕ) (a : A) → put f p a p ≡ a
-unfolding put
-put-same f p a = rw (eq-eqb p p refl)
-
-put-other : {A : Type 0} (f : ℕ → A) (p : ℕ) (a : A) (q : ℕ) → (q ≡ p → ⊥) → put f p a q ≡ f q
-unfolding put
-put-other f p a q d = rw (ne-eqb q p d)
 
 module _ {k l : Keeper} {p : ℕ} {waits : Bool} {tag sent : ℕ} (c : Changed k l p waits tag sent) where
   changed-here : Sized k → p < 16 → Held l p waits tag sent

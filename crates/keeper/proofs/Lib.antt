@@ -1,5 +1,6 @@
 -- Laws about the definitions of specs/.
 pub mod Bits
+pub mod Masks
 pub mod Kept
 pub mod Causes
 pub mod Outcomes

@@ -4,4 +4,5 @@ pub mod Refusals
 pub mod Apply
 pub mod Lent
 pub mod Numbers
+pub mod Peers
 pub mod Settling

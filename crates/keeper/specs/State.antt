@@ -1,5 +1,6 @@
 -- What a keeper holds, and when one that is handed in counts as started: document 01, 'Moments and ticks'.
 use mathlib.Core.Bool.{Bool, true, false, not, _&&_, _||_}
+use mathlib.Core.List.{List}
 use Prim.Native.Nat.{ℕ, zero, suc, _+_, _/_, _%_, _^_}
 use lib.Dec.{leb, eqb}
 use lib.ListN.{getD, replicate}
@@ -55,18 +56,26 @@ countBelow (suc n) test = countBelow n test + one (test n)
 unfoldable pub put : {A : Type 0} → (ℕ → A) → ℕ → A → ℕ → A
 put f p a q = choose (eqb q p) (λ _. a) (λ _. f q)
 
--- 'the waiting peers' tags differ, are 1 through the requests sent and belong to tick counts not above the ticks, and the other peers hold 0
--- for both'
+-- 'the waiting peers' tags .. are 1 through the requests sent and belong to tick counts not above the ticks'
+abbrev pub waiterKept : ℕ → ℕ → ℕ → ℕ → Bool
+waiterKept requests ticks tag sent = leb 1 tag && leb tag requests && leb sent ticks
+
+-- 'and the other peers hold 0 for both'
+abbrev pub idleKept : ℕ → ℕ → Bool
+idleKept tag sent = eqb tag 0 && eqb sent 0
+
 unfoldable pub peerKept : Keeper → ℕ → Bool
 peerKept k p =
     let tag = getD (k .tags) p 0 in
     let sent = getD (k .«sent_at») p 0 in
-    (bitOf (k .waiting) p && (leb 1 tag && leb tag (k .requests) && leb sent (k .ticks)))
-    || (not (bitOf (k .waiting) p) && (eqb tag 0 && eqb sent 0))
+    (bitOf (k .waiting) p && waiterKept (k .requests) (k .ticks) tag sent) || (not (bitOf (k .waiting) p) && idleKept tag sent)
 
--- two peers do not both wait with one tag
+-- 'the waiting peers' tags differ': two peers do not both wait with one tag
+abbrev pub tagsDiffer : ℕ → List ℕ → ℕ → ℕ → Bool
+tagsDiffer waiting tags p q = not (bitOf waiting p && bitOf waiting q && eqb (getD tags p 0) (getD tags q 0))
+
 unfoldable pub tagsApart : Keeper → ℕ → ℕ → Bool
-tagsApart k p q = not (bitOf (k .waiting) p && bitOf (k .waiting) q && eqb (getD (k .tags) p 0) (getD (k .tags) q 0))
+tagsApart k p q = tagsDiffer (k .waiting) (k .tags) p q
 
 -- 'A keeper handed in counts as not started unless its numbers lie within the limits on this page, its edges are in order, conflicts plus
 -- waiting are at most the requests sent, the board itself isn't waiting', and the peers are kept as above.

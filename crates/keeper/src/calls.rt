@@ -7,8 +7,6 @@ use crate::edges::error_of;
 use crate::edges::widen;
 use crate::peers::bit_of;
 use crate::peers::count_of;
-use crate::peers::sent_of;
-use crate::peers::tag_of;
 use crate::replies::settle;
 use crate::started::MOST_REQUESTS;
 use crate::started::MOST_TICKS;
@@ -146,10 +144,13 @@ impl Keeper {
         if !bit_of(self.waiting, peer) {
             return refused(self, 7);
         }
-        if tag != tag_of(self, peer) {
+        // Each array is read from a local of its own: to read an element of `self`, all of `self` would be copied first.
+        let tags = self.tags;
+        if tag != tags[peer as usize] {
             return refused(self, 7);
         }
-        let w = self.ticks - sent_of(self, peer);
+        let sent_at = self.sent_at;
+        let w = self.ticks - sent_at[peer as usize];
         if LONGEST_WAIT < w {
             return refused(self, 8);
         }

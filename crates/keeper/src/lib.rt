@@ -12,17 +12,18 @@ mod started;
 mod steps;
 
 // Of each other board (a peer, 0..15): its bit of `waiting` is set while a request to it waits, with the request's tag and the tick
-// count when it was sent; a peer with none waiting holds 0 for both.
+// count when it was sent; a peer with none waiting holds 0 for both. The order of the fields leaves no gap before an array: with a gap,
+// the compiler makes each copy of a keeper by a call of memcpy.
 pub struct Keeper {
     pub started: bool,
     pub board: u8,
     pub rule: Rule,
     pub claim: u16,
+    pub waiting: u16,
     pub edges: Interval,
     pub ticks: u64,
     pub requests: u32,
     pub conflicts: u32,
-    pub waiting: u16,
     pub tags: [u32; 16],
     pub sent_at: [u64; 16],
 }

@@ -1,8 +1,6 @@
 // What a keeper holds of one peer. Every function is total: a number above 15 is no peer, and none waits there.
-use crate::Keeper;
 ghost use mathlib.Core.Path.{_≡_};
-ghost use lib.ListN.{getD};
-ghost use Rattle.keeper.specs.State.{bitOf, countBelow, peerKept, tagsApart};
+ghost use Rattle.keeper.specs.State.{bitOf, countBelow, waiterKept, idleKept};
 
 pub const PEERS: u8 = 16;
 
@@ -23,56 +21,22 @@ pub fn count_of(mask: u16) -> u32
     u16::count_ones(mask)
 }
 
-// The tag of the peer's request.
-pub fn tag_of(keeper: Keeper, peer: u8) -> u32
-    ensures { λ r. ⌜ r ≡ getD (keeper .tags) peer 0 ⌝ }
+// A waiting peer has a tag that was given and a tick count that was reached.
+pub(crate) fn waiter_kept(requests: u32, ticks: u64, tag: u32, sent: u64) -> bool
+    ensures { λ r. ⌜ r ≡ waiterKept requests ticks tag sent ⌝ }
 {
-    if PEERS <= peer {
-        return 0;
-    }
-    keeper.tags[peer as usize]
-}
-
-// The tick count when the peer's request was sent.
-pub fn sent_of(keeper: Keeper, peer: u8) -> u64
-    ensures { λ r. ⌜ r ≡ getD (keeper .«sent_at») peer 0 ⌝ }
-{
-    if PEERS <= peer {
-        return 0;
-    }
-    keeper.sent_at[peer as usize]
-}
-
-// A waiting peer has a tag that was given and a tick count that was reached; another holds 0 for both.
-pub(crate) fn peer_kept(keeper: Keeper, peer: u8) -> bool
-    ensures { λ r. ⌜ r ≡ peerKept keeper peer ⌝ }
-{
-    let tag = tag_of(keeper, peer);
-    let sent = sent_of(keeper, peer);
-    if bit_of(keeper.waiting, peer) {
-        if tag < 1 {
-            return false;
-        }
-        if keeper.requests < tag {
-            return false;
-        }
-        return sent <= keeper.ticks;
-    }
-    if tag != 0 {
+    if tag < 1 {
         return false;
     }
-    sent == 0
+    if requests < tag {
+        return false;
+    }
+    sent <= ticks
 }
 
-// Two peers do not both wait with one tag.
-pub(crate) fn tags_apart(keeper: Keeper, first: u8, second: u8) -> bool
-    ensures { λ r. ⌜ r ≡ tagsApart keeper first second ⌝ }
+// Another peer holds 0 for both. Both are tested at once, by their bits: each call asks this of up to sixteen peers.
+pub(crate) fn idle_kept(tag: u32, sent: u64) -> bool
+    ensures { λ r. ⌜ r ≡ idleKept tag sent ⌝ }
 {
-    if !bit_of(keeper.waiting, first) {
-        return true;
-    }
-    if !bit_of(keeper.waiting, second) {
-        return true;
-    }
-    tag_of(keeper, first) != tag_of(keeper, second)
+    (tag as u64) | sent == 0
 }

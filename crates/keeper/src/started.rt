@@ -3,88 +3,94 @@ use crate::Keeper;
 use crate::peers::PEERS;
 use crate::peers::bit_of;
 use crate::peers::count_of;
-use crate::peers::peer_kept;
-use crate::peers::tags_apart;
+use crate::peers::idle_kept;
+use crate::peers::waiter_kept;
 use command::limits::board_within;
 use command::limits::claim_within;
 use command::limits::edges_within;
+use moment::Interval;
 ghost use mathlib.Core.Path.{_≡_};
-ghost use Rattle.keeper.specs.State.{allBelow, peerKept, tagsApart, countsAsStarted};
+ghost use Rattle.keeper.specs.State.{countsAsStarted};
 ghost use Rattle.keeper.specs.Numbers.{numbersKept};
+ghost use Rattle.keeper.specs.Peers.{othersIdle, tagFree, waitersKept};
 
 pub const MOST_TICKS: u64 = 4000000000000000000;
 
 pub const MOST_REQUESTS: u32 = 16777215;
 
-// What is kept of each peer is in order.
-fn peers_kept(keeper: Keeper) -> bool
-    ensures { λ r. ⌜ r ≡ allBelow 16 (peerKept keeper) ⌝ }
+// Each peer with none waiting holds 0 for both.
+fn others_idle<'a>(waiting: u16, tags: &'a [u32; 16], sent_at: &'a [u64; 16]) -> bool
+    ensures { λ r. ⌜ r ≡ othersIdle waiting (now (tags .entry)) (now («sent_at» .entry)) ⌝ }
 {
     let mut p: u8 = 0;
     while p < PEERS {
-        if !peer_kept(keeper, p) {
-            return false;
+        if !bit_of(waiting, p) {
+            if !idle_kept(tags[p as usize], sent_at[p as usize]) {
+                return false;
+            }
         }
         p += 1;
     }
     true
 }
 
-// The peers before `first` do not share its tag.
-fn tag_apart(keeper: Keeper, first: u8) -> bool
-    ensures { λ r. ⌜ r ≡ allBelow first (tagsApart keeper first) ⌝ }
+// No peer of the mask has the tag. Only the peers of the mask are looked at: the lowest bit that is set is taken off until none is left.
+fn tag_free(mask: u16, tag: u32, tags: &[u32; 16]) -> bool
+    ensures { λ r. ⌜ r ≡ tagFree mask tag (now (tags .entry)) ⌝ }
 {
-    let mut q: u8 = 0;
-    while q < first {
-        if !tags_apart(keeper, first, q) {
+    let mut rest = mask;
+    while rest != 0 {
+        let q = u16::trailing_zeros(rest) as usize;
+        if tags[q] == tag {
             return false;
         }
-        q += 1;
+        rest = rest & (rest - 1);
     }
     true
 }
 
-// A peer with none waiting shares no tag, and only a waiting one is compared with those before it.
-fn shares_none(keeper: Keeper, first: u8) -> bool
-    ensures { λ r. ⌜ r ≡ allBelow first (tagsApart keeper first) ⌝ }
+// Each waiting peer is in order, and its tag is none of those that wait after it.
+fn waiters_kept<'a>(
+    waiting: u16,
+    requests: u32,
+    ticks: u64,
+    tags: &'a [u32; 16],
+    sent_at: &'a [u64; 16],
+) -> bool
+    ensures { λ r. ⌜ r ≡ waitersKept waiting requests ticks (now (tags .entry)) (now («sent_at» .entry)) ⌝ }
 {
-    if !bit_of(keeper.waiting, first) {
-        return true;
-    }
-    tag_apart(keeper, first)
-}
-
-// No two peers share a tag.
-fn all_apart(keeper: Keeper) -> bool
-    ensures { λ r. ⌜ r ≡ allBelow 16 (λ p. allBelow p (tagsApart keeper p)) ⌝ }
-{
-    let mut p: u8 = 0;
-    while p < PEERS {
-        if !shares_none(keeper, p) {
+    let mut rest = waiting;
+    while rest != 0 {
+        let p = u16::trailing_zeros(rest) as usize;
+        let tag = tags[p];
+        rest = rest & (rest - 1);
+        if !waiter_kept(requests, ticks, tag, sent_at[p]) {
             return false;
         }
-        p += 1;
+        if !tag_free(rest, tag, tags) {
+            return false;
+        }
     }
     true
 }
 
 // The numbers that are no peer's are within their limits and the edges in order.
-fn numbers_kept(keeper: Keeper) -> bool
-    ensures { λ r. ⌜ r ≡ numbersKept keeper ⌝ }
+fn numbers_kept(board: u8, claim: u16, edges: Interval, ticks: u64, requests: u32) -> bool
+    ensures { λ r. ⌜ r ≡ numbersKept board claim edges ticks requests ⌝ }
 {
-    if !board_within(keeper.board as u64) {
+    if !board_within(board as u64) {
         return false;
     }
-    if !claim_within(keeper.claim as u64) {
+    if !claim_within(claim as u64) {
         return false;
     }
-    if !edges_within(keeper.edges) {
+    if !edges_within(edges) {
         return false;
     }
-    if MOST_TICKS < keeper.ticks {
+    if MOST_TICKS < ticks {
         return false;
     }
-    keeper.requests <= MOST_REQUESTS
+    requests <= MOST_REQUESTS
 }
 
 impl Keeper {
@@ -95,7 +101,13 @@ impl Keeper {
         if !self.started {
             return false;
         }
-        if !numbers_kept(self) {
+        if !numbers_kept(
+            self.board,
+            self.claim,
+            self.edges,
+            self.ticks,
+            self.requests,
+        ) {
             return false;
         }
         let outstanding = count_of(self.waiting) as u64;
@@ -105,9 +117,12 @@ impl Keeper {
         if bit_of(self.waiting, self.board) {
             return false;
         }
-        if !peers_kept(self) {
+        // The arrays are lent from locals of their own: to lend a field of `self`, all of `self` would be copied first.
+        let tags = self.tags;
+        let sent_at = self.sent_at;
+        if !others_idle(self.waiting, &tags, &sent_at) {
             return false;
         }
-        all_apart(self)
+        waiters_kept(self.waiting, self.requests, self.ticks, &tags, &sent_at)
     }
 }

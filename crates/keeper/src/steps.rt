@@ -48,18 +48,23 @@ fn bit(peer: u8) -> u16
     1u16 << peer
 }
 
-// The keeper with a request to the peer sent now.
+// The keeper with a request to the peer sent now. Here and in the next function the arrays are changed in locals of their own: to store
+// an element in the keeper itself, all of it would be copied once more.
 pub(crate) fn asked_of(keeper: Keeper, peer: u8) -> Keeper
     requires { ⌜ peer ≤ 15 ⌝ }
     requires { ⌜ keeper .requests ≤ 16777214 ⌝ }
     requires { ⌜ bitOf (keeper .waiting) peer ≡ false ⌝ }
     ensures { λ r. ⌜ r ≡ asked keeper peer ⌝ }
 {
+    let mut tags = keeper.tags;
+    tags[peer as usize] = keeper.requests + 1;
+    let mut sent_at = keeper.sent_at;
+    sent_at[peer as usize] = keeper.ticks;
     let mut next = keeper;
     next.requests = keeper.requests + 1;
     next.waiting = keeper.waiting + bit(peer);
-    next.tags[peer as usize] = keeper.requests + 1;
-    next.sent_at[peer as usize] = keeper.ticks;
+    next.tags = tags;
+    next.sent_at = sent_at;
     next
 }
 
@@ -69,12 +74,16 @@ pub(crate) fn ended_with(keeper: Keeper, peer: u8, edges: Interval, conflicts: u
     requires { ⌜ bitOf (keeper .waiting) peer ≡ true ⌝ }
     ensures { λ r. ⌜ r ≡ ended keeper peer edges conflicts ⌝ }
 {
+    let mut tags = keeper.tags;
+    tags[peer as usize] = 0;
+    let mut sent_at = keeper.sent_at;
+    sent_at[peer as usize] = 0;
     let mut next = keeper;
     next.edges = edges;
     next.conflicts = conflicts;
     next.waiting = keeper.waiting - bit(peer);
-    next.tags[peer as usize] = 0;
-    next.sent_at[peer as usize] = 0;
+    next.tags = tags;
+    next.sent_at = sent_at;
     next
 }
 

@@ -54,8 +54,8 @@ pub fn call(keeper: Keeper, line: &[u8], out: &mut [u8]) -> Response
     }
     let outcome = answer_to(keeper, line);
     let answer = outcome.answer;
+    let length = write_answer(out, answer, outcome.keeper);
     let next = outcome.keeper;
-    let length = write_answer(out, answer, next);
     Response {
         number: number_of(answer),
         keeper: next,

@@ -67,37 +67,37 @@ returns-4 c =
       not-false (x .self .started) (c .before .before .before .before .before .before .before .before .if1 .left),
     )
 
-peers-kept-requires : tie.Need-peers-kept-requires
-peers-kept-requires c κs = search needs
+others-idle-requires : tie.Need-others-idle-requires
+others-idle-requires c κs = search needs
 
 returns-5 : tie.Need-returns-5
 returns-5 c =
-    let x = c .before .before .before .before .before .before .before .before .before .before .before .before .args in
+    let x = c .before .before .before .before .before .before .before .before .before .before .before .before .before .before .before .before .args in
     rw (
       in-parts (x .self),
-      sym (c .before .before .before .before .before .before .before .before .before .numbers-kept .ensures) ∙ not-false _ (c .before .before .before .before .before .before .before .before .if2 .left),
-      ← c .before .before .before .before .before .before .before .count-of .ensures,
-      le-leb _ _ (c .before .before .before .before .if3 .left),
-      sym (c .before .before .before .bit-of .ensures) ∙ c .before .before .if4 .left,
-      sym (c .before .peers-kept .ensures) ∙ not-true _ (c .if5 .taken),
-      not-false (x .self .started) (c .before .before .before .before .before .before .before .before .before .before .if1 .left),
+      sym (c .before .before .before .before .before .before .before .before .before .before .before .before .before .numbers-kept .ensures) ∙ not-false _ (c .before .before .before .before .before .before .before .before .before .before .before .before .if2 .left),
+      ← c .before .before .before .before .before .before .before .before .before .before .before .count-of .ensures,
+      le-leb _ _ (c .before .before .before .before .before .before .before .before .if3 .left),
+      sym (c .before .before .before .before .before .before .before .bit-of .ensures) ∙ c .before .before .before .before .before .before .if4 .left,
+      sym (c .before .others-idle .ensures) ∙ not-true _ (c .if5 .taken),
+      not-false (x .self .started) (c .before .before .before .before .before .before .before .before .before .before .before .before .before .before .if1 .left),
     )
 
-all-apart-requires : tie.Need-all-apart-requires
-all-apart-requires c κs = search needs
+waiters-kept-requires : tie.Need-waiters-kept-requires
+waiters-kept-requires c κs = search needs
 
 returns-6 : tie.Need-returns-6
 returns-6 c =
-    let x = c .before .before .before .before .before .before .before .before .before .before .before .before .before .args in
+    let x = c .before .before .before .before .before .before .before .before .before .before .before .before .before .before .before .before .before .before .before .args in
     rw (
       in-parts (x .self),
-      sym (c .before .before .before .before .before .before .before .before .before .before .numbers-kept .ensures) ∙ not-false _ (c .before .before .before .before .before .before .before .before .before .if2 .left),
-      ← c .before .before .before .before .before .before .before .before .count-of .ensures,
-      le-leb _ _ (c .before .before .before .before .before .if3 .left),
-      sym (c .before .before .before .before .bit-of .ensures) ∙ c .before .before .before .if4 .left,
-      sym (c .before .before .peers-kept .ensures) ∙ not-false _ (c .before .if5 .left),
-      ← c .all-apart .ensures,
-      not-false (x .self .started) (c .before .before .before .before .before .before .before .before .before .before .before .if1 .left),
+      sym (c .before .before .before .before .before .before .before .before .before .before .before .before .before .before .before .before .numbers-kept .ensures) ∙ not-false _ (c .before .before .before .before .before .before .before .before .before .before .before .before .before .before .before .if2 .left),
+      ← c .before .before .before .before .before .before .before .before .before .before .before .before .before .before .count-of .ensures,
+      le-leb _ _ (c .before .before .before .before .before .before .before .before .before .before .before .if3 .left),
+      sym (c .before .before .before .before .before .before .before .before .before .before .bit-of .ensures) ∙ c .before .before .before .before .before .before .before .before .before .if4 .left,
+      sym (c .before .before .before .before .others-idle .ensures) ∙ not-false _ (c .before .before .before .if5 .left),
+      ← c .waiters-kept .ensures,
+      not-false (x .self .started) (c .before .before .before .before .before .before .before .before .before .before .before .before .before .before .before .before .before .if1 .left),
     )
 
 pub counts-as-started-spec : {M : Type 1} → statement M
@@ -115,7 +115,7 @@ counts-as-started-spec =
     returns-3
     bit-of-requires
     returns-4
-    peers-kept-requires
+    others-idle-requires
     returns-5
-    all-apart-requires
+    waiters-kept-requires
     returns-6)

@@ -2,6 +2,7 @@
 use borrow.Author.Needs.{needs}
 use borrow.Author.Tests.{not-true, not-false, eq-eqb, ne-eqb, lt-ltb, le-ltb}
 use mathlib.Core.Path.{refl, sym, _∙_}
+use native.Mathlib.Omega.{arith}
 use Rattle.command.specs.declared.Command.the-variants as C
 use Rattle.command.proofs.LimitLaws.{board-bound}
 use Rattle.keeper.specs.State.{stateOf}
@@ -125,8 +126,11 @@ returns-6 c =
       sym (c .before .before .bit-of .ensures) ∙ not-true _ (c .before .if6 .taken),
     )))
 
-tag-of-requires : tie.Need-tag-of-requires
-tag-of-requires c κs = search needs
+mul-if7 : tie.Need-mul-if7
+mul-if7 c = search needs
+
+array-read-if7 : tie.Need-array-read-if7
+array-read-if7 c = omega (arith, board-bound _ (sym (c .before .before .before .before .before .before .before .before .before .before .before .before .board-within .ensures) ∙ not-false _ (c .before .before .before .before .before .before .before .before .before .before .before .if1 .left)))
 
 refused-requires-7 : tie.Need-refused-requires-7
 refused-requires-7 c κs = search needs
@@ -145,17 +149,19 @@ returns-7 c =
       sym (c .before .before .before .before .before .before .before .before .counts-as-started .ensures) ∙ not-false _ (c .before .before .before .before .before .before .before .if4 .left),
       ne-eqb _ _ (c .before .before .before .before .before .if5 .left),
       sym (c .before .before .before .before .bit-of .ensures) ∙ not-false _ (c .before .before .before .if6 .left),
-      ← (c .before .before .tag-of .ensures),
       ne-eqb _ _ (c .before .if7 .taken),
     )))
 
-sent-of-requires : tie.Need-sent-of-requires
-sent-of-requires c κs = search needs
+mul-w : tie.Need-mul-w
+mul-w c = search needs
+
+array-read-w : tie.Need-array-read-w
+array-read-w c = omega (arith, board-bound _ (sym (c .before .before .before .before .before .before .before .before .before .before .before .before .before .before .board-within .ensures) ∙ not-false _ (c .before .before .before .before .before .before .before .before .before .before .before .before .before .if1 .left)))
 
 sub-w : tie.Need-sub-w
 sub-w c =
     let x = c .before .before .before .before .before .before .before .before .before .before .before .before .before .before .before .before .args in
-    rw (c .before .sent-of .ensures) (sent-by (x .self) (x .peer) (clauses (x .self) (sym (c .before .before .before .before .before .before .before .before .before .counts-as-started .ensures) ∙ not-false _ (c .before .before .before .before .before .before .before .before .if4 .left))) (board-bound _ (sym (c .before .before .before .before .before .before .before .before .before .before .before .before .before .before .before .board-within .ensures) ∙ not-false _ (c .before .before .before .before .before .before .before .before .before .before .before .before .before .before .if1 .left))) (sym (c .before .before .before .before .before .bit-of .ensures) ∙ not-false _ (c .before .before .before .before .if6 .left)))
+    (sent-by (x .self) (x .peer) (clauses (x .self) (sym (c .before .before .before .before .before .before .before .before .before .counts-as-started .ensures) ∙ not-false _ (c .before .before .before .before .before .before .before .before .if4 .left))) (board-bound _ (sym (c .before .before .before .before .before .before .before .before .before .before .before .before .before .before .before .board-within .ensures) ∙ not-false _ (c .before .before .before .before .before .before .before .before .before .before .before .before .before .before .if1 .left))) (sym (c .before .before .before .before .before .bit-of .ensures) ∙ not-false _ (c .before .before .before .before .if6 .left)))
 
 refused-requires-8 : tie.Need-refused-requires-8
 refused-requires-8 c κs = search needs
@@ -174,9 +180,7 @@ returns-8 c =
       sym (c .before .before .before .before .before .before .before .before .before .before .before .counts-as-started .ensures) ∙ not-false _ (c .before .before .before .before .before .before .before .before .before .before .if4 .left),
       ne-eqb _ _ (c .before .before .before .before .before .before .before .before .if5 .left),
       sym (c .before .before .before .before .before .before .before .bit-of .ensures) ∙ not-false _ (c .before .before .before .before .before .before .if6 .left),
-      ← (c .before .before .before .before .before .tag-of .ensures),
       eq-eqb _ _ (c .before .before .before .before .if7 .left),
-      ← (c .before .before .before .sent-of .ensures),
       lt-ltb _ _ (c .before .if8 .taken),
     )))
 
@@ -191,7 +195,7 @@ settle-requires c κs =
       peer-within = board-bound _ (sym (c .before .before .before .before .before .before .before .before .before .before .before .before .before .before .before .before .board-within .ensures) ∙ not-false _ (c .before .before .before .before .before .before .before .before .before .before .before .before .before .before .before .if1 .left));
       waits = sym (c .before .before .before .before .before .before .bit-of .ensures) ∙ not-false _ (c .before .before .before .before .before .if6 .left);
       edges = sym (c .before .before .before .before .before .before .before .before .before .before .before .before .edges-within .ensures) ∙ not-false _ (c .before .before .before .before .before .before .before .before .before .before .before .if3 .left);
-      since = rw (c .before .before .sent-of .ensures);
+      since = refl;
       soon = c .if8 .left;
     }
 
@@ -206,8 +210,8 @@ returns-9 c =
     (sym (c .before .before .before .before .before .before .before .before .before .before .before .counts-as-started .ensures) ∙ not-false _ (c .before .before .before .before .before .before .before .before .before .before .if4 .left))
     (ne-eqb _ _ (c .before .before .before .before .before .before .before .before .if5 .left))
     (sym (c .before .before .before .before .before .before .before .bit-of .ensures) ∙ not-false _ (c .before .before .before .before .before .before .if6 .left))
-    (rw (← (c .before .before .before .before .before .tag-of .ensures)) (eq-eqb _ _ (c .before .before .before .before .if7 .left)))
-    (rw (← (c .before .before .before .sent-of .ensures)) (le-ltb _ _ (c .before .if8 .left))))
+    (eq-eqb _ _ (c .before .before .before .before .if7 .left))
+    (le-ltb _ _ (c .before .if8 .left)))
 
 pub reply-spec : {M : Type 1} → statement M
 reply-spec =
@@ -230,10 +234,12 @@ reply-spec =
     bit-of-requires
     refused-requires-6
     returns-6
-    tag-of-requires
+    mul-if7
+    array-read-if7
     refused-requires-7
     returns-7
-    sent-of-requires
+    mul-w
+    array-read-w
     sub-w
     refused-requires-8
     returns-8

@@ -6,20 +6,12 @@ use Rattle.keeper.specs.Numbers.{numbersKept}
 use Rattle.keeper.proofs.started.numbers_kept.Statement.{statement}
 use Rattle.keeper.proofs.started.numbers_kept.Tie as tie
 
-cast-board-within : tie.Need-cast-board-within
-cast-board-within c = search needs
-
 board-within-requires : tie.Need-board-within-requires
 board-within-requires c κs = search needs
 
 returns : tie.Need-returns
 unfolding numbersKept
-returns c =
-    let x = c .before .before .before .args in
-    rw (sym (c .before .board-within .ensures) ∙ not-true _ (c .if1 .taken))
-
-cast-claim-within : tie.Need-cast-claim-within
-cast-claim-within c = search needs
+returns c = rw (sym (c .before .board-within .ensures) ∙ not-true _ (c .if1 .taken))
 
 claim-within-requires : tie.Need-claim-within-requires
 claim-within-requires c κs = search needs
@@ -27,9 +19,8 @@ claim-within-requires c κs = search needs
 returns-2 : tie.Need-returns-2
 unfolding numbersKept
 returns-2 c =
-    let x = c .before .before .before .before .before .before .args in
     rw (
-      sym (c .before .before .before .before .board-within .ensures) ∙ not-false _ (c .before .before .before .if1 .left),
+      sym (c .before .before .before .board-within .ensures) ∙ not-false _ (c .before .before .if1 .left),
       sym (c .before .claim-within .ensures) ∙ not-true _ (c .if2 .taken),
     )
 
@@ -39,9 +30,8 @@ edges-within-requires c κs = search needs
 returns-3 : tie.Need-returns-3
 unfolding numbersKept
 returns-3 c =
-    let x = c .before .before .before .before .before .before .before .before .args in
     rw (
-      sym (c .before .before .before .before .before .before .board-within .ensures) ∙ not-false _ (c .before .before .before .before .before .if1 .left),
+      sym (c .before .before .before .before .before .board-within .ensures) ∙ not-false _ (c .before .before .before .before .if1 .left),
       sym (c .before .before .before .claim-within .ensures) ∙ not-false _ (c .before .before .if2 .left),
       sym (c .before .edges-within .ensures) ∙ not-true _ (c .if3 .taken),
     )
@@ -49,36 +39,24 @@ returns-3 c =
 returns-4 : tie.Need-returns-4
 unfolding numbersKept
 returns-4 c =
-    let x = c .before .before .before .before .before .before .before .before .before .before .args in
     rw (
-      sym (c .before .before .before .before .before .before .before .before .board-within .ensures) ∙ not-false _ (c .before .before .before .before .before .before .before .if1 .left),
-      sym (c .before .before .before .before .before .claim-within .ensures) ∙ not-false _ (c .before .before .before .before .if2 .left),
-      sym (c .before .before .before .edges-within .ensures) ∙ not-false _ (c .before .before .if3 .left),
+      sym (c .before .before .before .before .before .before .board-within .ensures) ∙ not-false _ (c .before .before .before .before .before .if1 .left),
+      sym (c .before .before .before .before .claim-within .ensures) ∙ not-false _ (c .before .before .before .if2 .left),
+      sym (c .before .before .edges-within .ensures) ∙ not-false _ (c .before .if3 .left),
       lt-leb _ _ (c .if4 .taken),
     )
 
 returns-5 : tie.Need-returns-5
 unfolding numbersKept
 returns-5 c =
-    let x = c .before .before .before .before .before .before .before .before .before .before .before .args in
     rw (
-      sym (c .before .before .before .before .before .before .before .before .before .board-within .ensures) ∙ not-false _ (c .before .before .before .before .before .before .before .before .if1 .left),
-      sym (c .before .before .before .before .before .before .claim-within .ensures) ∙ not-false _ (c .before .before .before .before .before .if2 .left),
-      sym (c .before .before .before .before .edges-within .ensures) ∙ not-false _ (c .before .before .before .if3 .left),
-      le-leb _ _ (c .before .if4 .left),
+      sym (c .before .before .before .before .before .before .board-within .ensures) ∙ not-false _ (c .before .before .before .before .before .if1 .left),
+      sym (c .before .before .before .before .claim-within .ensures) ∙ not-false _ (c .before .before .before .if2 .left),
+      sym (c .before .before .edges-within .ensures) ∙ not-false _ (c .before .if3 .left),
+      le-leb _ _ (c .if4 .left),
     )
 
 pub numbers-kept-spec : {M : Type 1} → statement M
 numbers-kept-spec =
     tie.close
-    (tie.spec
-    cast-board-within
-    board-within-requires
-    returns
-    cast-claim-within
-    claim-within-requires
-    returns-2
-    edges-within-requires
-    returns-3
-    returns-4
-    returns-5)
+    (tie.spec board-within-requires returns claim-within-requires returns-2 edges-within-requires returns-3 returns-4 returns-5)

@@ -1,0 +1,29 @@
+-- Parts of `countsAsStarted` that private functions promise: what a mask, tags and tick counts say of the peers.
+use mathlib.Core.Bool.{Bool, not, _&&_, _||_}
+use mathlib.Core.List.{List}
+use Prim.Native.Nat.{ℕ}
+use lib.Dec.{eqb}
+use lib.ListN.{getD}
+use Rattle.keeper.specs.State.{bitOf, allBelow, waiterKept, idleKept, tagsDiffer}
+
+-- each peer that does not wait holds 0 for both
+abbrev pub idleOrWaits : ℕ → List ℕ → List ℕ → ℕ → Bool
+idleOrWaits waiting tags sent p = bitOf waiting p || idleKept (getD tags p 0) (getD sent p 0)
+
+unfoldable pub othersIdle : ℕ → List ℕ → List ℕ → Bool
+othersIdle waiting tags sent = allBelow 16 (idleOrWaits waiting tags sent)
+
+-- no peer of the mask has the tag
+abbrev pub hasOther : ℕ → ℕ → List ℕ → ℕ → Bool
+hasOther mask tag tags p = not (bitOf mask p && eqb (getD tags p 0) tag)
+
+unfoldable pub tagFree : ℕ → ℕ → List ℕ → Bool
+tagFree mask tag tags = allBelow 16 (hasOther mask tag tags)
+
+-- each waiting peer's tag and tick count are in order, and no two have one tag
+abbrev pub keptOrRests : ℕ → ℕ → ℕ → List ℕ → List ℕ → ℕ → Bool
+keptOrRests waiting requests ticks tags sent p = not (bitOf waiting p) || waiterKept requests ticks (getD tags p 0) (getD sent p 0)
+
+unfoldable pub waitersKept : ℕ → ℕ → ℕ → List ℕ → List ℕ → Bool
+waitersKept waiting requests ticks tags sent =
+    allBelow 16 (keptOrRests waiting requests ticks tags sent) && allBelow 16 (λ p. allBelow p (tagsDiffer waiting tags p))
