@@ -1,97 +1,96 @@
--- `numeral::write::spell` meets its contract. The loop's invariant: the digits of n are those of what is left of it and then the bytes from the place on. Each turn moves the last digit over; there is room for it, since n has at most 20 digits.
-use mathlib.Core.Path.{_≡_, sym}
-use mathlib.Core.List.{[], _++_, append-nil}
-use Prim.Native.Nat.{_≤_}
+-- `numeral::write::spell` meets its contract: one or two digits are left, which go before the others. There is room for them, since n has at
+-- most 20.
+use mathlib.Core.Path.{refl}
 use native.Mathlib.Omega.{arith}
-use lib.ListN.{length, drop, length-set, drop-of-length-le}
-use Rattle.numeral.specs.Digits.{digits}
-use Rattle.numeral.proofs.Digits.{digits-some, digits-most}
-use Rattle.numeral.proofs.Writing.{digit-stored, first-stored, from-is}
+use lib.ListN.{length-set}
+use Rattle.numeral.proofs.Writing.{one-room, two-room, first-stored, pair-first}
+use borrow.Author.Needs.{needs}
 use Rattle.numeral.proofs.write.spell.Statement.{statement}
 use Rattle.numeral.proofs.write.spell.Tie as tie
 
-abbrev Inv-loop : tie.InvT-loop
-Inv-loop bytes₀ n left₀ from₀ bytes left from = (from ≤ 20) × (length bytes ≡ 20) × (digits n ≡ digits left ++ drop from bytes)
+spell-pairs-requires : tie.Need-spell-pairs-requires
+spell-pairs-requires c κs = search needs
 
-abbrev μ-loop : tie.MeasureT-loop
-μ-loop bytes₀ n left₀ from₀ bytes left from = left
+add-bytes : tie.Need-add-bytes
+add-bytes c = search needs
 
-loop-holds : tie.Need-loop-holds Inv-loop μ-loop
-loop-holds c =
-    let none : drop 20 (c .args .bytes .now) ≡ [] = drop-of-length-le (c .args .bytes .now) {i = 20} (omega arith) in
-    (omega arith, c .pre, sym (rw (none, append-nil)))
+cast-bytes : tie.Need-cast-bytes
+cast-bytes c = search needs
 
--- the digits left and those written are at most 20, and one at least is left
-room : (c : tie.At-loop Inv-loop μ-loop) → 1 ≤ c .loop .from
-room c =
-    omega (
-      arith,
-      from-is (c .before .args .n) (c .loop .left) (c .loop .from) (c .loop .bytes) (omega arith) (c .loop .inv .2),
-      digits-most 19 (c .before .args .n) (omega arith),
-      digits-some (c .loop .left),
-    )
+sub-bytes : tie.Need-sub-bytes
+sub-bytes c = one-room (c .before .before .before .before .before .before .before .before .args .n) _ _ _ (c .before .before .before .before .before .spell-pairs .ensures .0) (omega arith)
 
-sub-from : tie.Need-sub-from Inv-loop μ-loop
-sub-from c = room (c .before)
+slice-write-bytes : tie.Need-slice-write-bytes
+slice-write-bytes c = omega (arith, one-room (c .before .before .before .before .before .before .before .before .args .n) _ _ _ (c .before .before .before .before .before .spell-pairs .ensures .0) (omega arith), c .before .before .before .before .before .spell-pairs .ensures .0 .within, c .before .before .before .before .before .spell-pairs .ensures .0 .long)
 
-add-bytes : tie.Need-add-bytes Inv-loop μ-loop
-add-bytes c = omega arith
+sub-result : tie.Need-sub-result
+sub-result c = one-room (c .before .before .before .before .before .before .before .before .args .n) _ _ _ (c .before .before .before .before .before .spell-pairs .ensures .0) (omega arith)
 
-cast-bytes : tie.Need-cast-bytes Inv-loop μ-loop
-cast-bytes c = omega arith
+same-length : tie.Need-same-length
+same-length c = search needs
 
-slice-write-bytes : tie.Need-slice-write-bytes Inv-loop μ-loop
-slice-write-bytes c = omega (arith, room (c .before))
-
-loop-less : tie.Need-loop-less Inv-loop μ-loop
-loop-less c = omega arith
-
-loop-again : tie.Need-loop-again Inv-loop μ-loop
-loop-again c =
-    let k = c .before .loop in (
-      omega arith,
-      simp length-set (k .inv .1),
-      digit-stored (c .before .before .args .n) (k .left) (k .from) (k .bytes) (room (c .before)) (omega arith) (k .inv .2) _ (omega arith) (c .loop-test .taken),
-    )
-
-sub-from-2 : tie.Need-sub-from-2 Inv-loop μ-loop
-sub-from-2 c = room (c .before)
-
-add-bytes-2 : tie.Need-add-bytes-2 Inv-loop μ-loop
-add-bytes-2 c = omega arith
-
-cast-bytes-2 : tie.Need-cast-bytes-2 Inv-loop μ-loop
-cast-bytes-2 c = omega arith
-
-slice-write-bytes-2 : tie.Need-slice-write-bytes-2 Inv-loop μ-loop
-slice-write-bytes-2 c = omega (arith, room (c .before))
-
-same-length : tie.Need-same-length Inv-loop μ-loop
-same-length c = simp length-set (omega arith)
-
-returns : tie.Need-returns Inv-loop μ-loop
+returns : tie.Need-returns
 returns c =
-    let k = c .before .loop in (
-      first-stored (c .before .before .args .n) (k .left) (k .from) (k .bytes) (room (c .before)) (omega arith) (k .inv .2) _ (omega arith) (c .loop-test .left),
-      omega (arith, room (c .before)),
-    )
+    let s = c .before .before .before .before .before .spell-pairs .ensures .0 in
+    let room = one-room (c .before .before .before .before .before .before .before .before .args .n) _ _ _ (c .before .before .before .before .before .spell-pairs .ensures .0) (omega arith) in
+    (first-stored (c .before .before .before .before .before .before .before .before .args .n) _ _ _ room (omega (arith, s .within, s .long)) (s .digits-are) _ refl (c .before .if1 .taken), omega (arith, room, s .within))
+
+add-bytes-2 : tie.Need-add-bytes-2
+add-bytes-2 c = search needs
+
+cast-bytes-2 : tie.Need-cast-bytes-2
+cast-bytes-2 c = search needs
+
+sub-bytes-2 : tie.Need-sub-bytes-2
+sub-bytes-2 c = one-room (c .before .before .before .before .before .before .before .before .args .n) _ _ _ (c .before .before .before .before .before .spell-pairs .ensures .0) (omega arith)
+
+slice-write-bytes-2 : tie.Need-slice-write-bytes-2
+slice-write-bytes-2 c = omega (arith, one-room (c .before .before .before .before .before .before .before .before .args .n) _ _ _ (c .before .before .before .before .before .spell-pairs .ensures .0) (omega arith), c .before .before .before .before .before .spell-pairs .ensures .0 .within, c .before .before .before .before .before .spell-pairs .ensures .0 .long)
+
+add-bytes-3 : tie.Need-add-bytes-3
+add-bytes-3 c = search needs
+
+cast-bytes-3 : tie.Need-cast-bytes-3
+cast-bytes-3 c = search needs
+
+sub-bytes-3 : tie.Need-sub-bytes-3
+sub-bytes-3 c = two-room (c .before .before .before .before .before .before .before .before .before .args .n) _ _ _ (c .before .before .before .before .before .before .spell-pairs .ensures .0) (omega arith) (c .before .before .if1 .left)
+
+slice-write-bytes-3 : tie.Need-slice-write-bytes-3
+slice-write-bytes-3 c = rw (length-set _ _ _) (omega (arith, two-room (c .before .before .before .before .before .before .before .before .before .args .n) _ _ _ (c .before .before .before .before .before .before .spell-pairs .ensures .0) (omega arith) (c .before .before .if1 .left), c .before .before .before .before .before .before .spell-pairs .ensures .0 .within, c .before .before .before .before .before .before .spell-pairs .ensures .0 .long))
+
+sub-result-2 : tie.Need-sub-result-2
+sub-result-2 c = two-room (c .before .before .before .before .before .before .before .before .before .args .n) _ _ _ (c .before .before .before .before .before .before .spell-pairs .ensures .0) (omega arith) (c .before .before .if1 .left)
+
+same-length-2 : tie.Need-same-length-2
+same-length-2 c = search needs
+
+returns-2 : tie.Need-returns-2
+returns-2 c =
+    let s = c .before .before .before .before .before .before .spell-pairs .ensures .0 in
+    let room = two-room (c .before .before .before .before .before .before .before .before .before .args .n) _ _ _ (c .before .before .before .before .before .before .spell-pairs .ensures .0) (omega arith) (c .before .before .if1 .left) in
+    (pair-first (c .before .before .before .before .before .before .before .before .before .args .n) _ _ _ s room _ _ refl refl (c .before .before .if1 .left) (c .before .before .before .before .before .before .spell-pairs .ensures .1), omega (arith, room, s .within))
 
 pub spell-spec : {M : Type 1} → statement M
 spell-spec =
     tie.close
     (tie.spec
-    Inv-loop
-    μ-loop
-    loop-holds
-    sub-from
+    spell-pairs-requires
     add-bytes
     cast-bytes
+    sub-bytes
     slice-write-bytes
-    loop-less
-    loop-again
-    sub-from-2
+    sub-result
+    same-length
+    returns
     add-bytes-2
     cast-bytes-2
+    sub-bytes-2
     slice-write-bytes-2
-    same-length
-    returns)
+    add-bytes-3
+    cast-bytes-3
+    sub-bytes-3
+    slice-write-bytes-3
+    sub-result-2
+    same-length-2
+    returns-2)
