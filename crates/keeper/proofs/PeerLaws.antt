@@ -1,18 +1,24 @@
 -- The tests of the peers that the code makes: of those that wait, of the others, and of their tags.
 use mathlib.Core.Path.{_≡_, refl, sym, _∙_}
-use mathlib.Core.Bool.{Bool, true, false, not, _&&_, and-false}
+use mathlib.Core.Bool.{Bool, true, false, not, _&&_, _||_, and-false, and-true}
 use mathlib.Core.List.{List}
-use Prim.Native.Nat.{ℕ, _+_, _^_, _<_}
+use Prim.Native.Nat.{ℕ, zero, suc, _+_, _^_, _<_, _≤_}
+use native.Mathlib.Nat.{le-trans, add-zero}
 use native.Mathlib.Numerals.{add-one}
 use native.Mathlib.Omega.{arith}
-use borrow.Author.Tests.{ltb-true, ltb-false, eqb-true, eqb-false, eq-eqb, ne-eqb, not-true, not-false}
+use borrow.Author.Tests.{leb-true, ltb-true, ltb-false, eqb-true, eqb-false, eq-eqb, ne-eqb, not-true, not-false}
 use lib.Bits.{bitOr, or-add-and, and-le-l, and-le-r}
 use lib.Dec.{ltb, eqb}
 use lib.ListN.{getD}
-use Rattle.keeper.specs.State.{bitOf, allBelow, waiterKept, idleKept, tagsDiffer}
-use Rattle.keeper.specs.Peers.{hasOther, tagFree, keptOrRests, waitersKept}
+use Rattle.moment.proofs.Integers.{by-test}
+use Rattle.keeper.specs.State.{bitOf, allBelow, countBelow, waiterKept, idleKept, tagsDiffer}
+use Rattle.keeper.specs.Peers.{idleOrWaits, othersIdle, hasTag, tagAlone, keptOrRests, waitersKept}
 use Rattle.keeper.proofs.Bits.{both, join, bit-within, all-at, all-made, all-broken, all-found}
-use Rattle.keeper.proofs.Masks.{Passed, next, after, next-within, next-among, after-fits, after-other, after-left}
+use Rattle.keeper.proofs.Masks.{Passed, next, next-within, next-among}
+
+neither : (s t : Bool) → s || t ≡ false → (s ≡ false) × (t ≡ false)
+neither true t e = absurd (let k : _≡_ {A = ℕ} 0 1 = cc in omega arith)
+neither false t e = (refl, e)
 
 -- a test that held of the peers before one, and holds of that one
 pub all-more : (n : ℕ) (test : ℕ → Bool) → allBelow n test ≡ true → test n ≡ true → allBelow (n + 1) test ≡ true
@@ -39,33 +45,50 @@ bits-idle tag sent = go (eqb (bitOr tag sent) 0) refl
         rw (no-tag, no-sent)
     go false e = not-both e (eqb tag 0) (eqb sent 0) refl refl
 
+-- ---- a test that holds of one number alone
+
+abbrev otherwise : (ℕ → Bool) → ℕ → ℕ → Bool
+otherwise test p q = eqb q p || not (test q)
+
+-- of none below n, if none is counted
+none-counted : (n p : ℕ) (test : ℕ → Bool) → n ≤ p → eqb (countBelow n test + 1) 1 ≡ allBelow n (otherwise test p)
+unfolding countBelow allBelow
+none-counted zero p test h = refl
+none-counted (suc n) p test h = go (test n) refl (none-counted n p test (omega arith))
+  where
+    here : eqb n p ≡ false
+    here = ne-eqb n p (λ e. absurd (omega (arith, e, h)))
+
+    go : (t : Bool) → test n ≡ t → eqb (countBelow n test + 1) 1 ≡ allBelow n (otherwise test p) → eqb (countBelow (suc n) test + 1) 1 ≡ allBelow (suc n) (otherwise test p)
+    go true e ih = rw (e, here) (ne-eqb (countBelow n test + 1 + 1) 1 (λ d. absurd (omega (arith, d))) ∙ sym (and-false (allBelow n (otherwise test p))))
+    go false e ih = rw (e, here, add-zero) (ih ∙ sym (and-true (allBelow n (otherwise test p))))
+
+-- p is one of those that are counted
+some-counted : (n p : ℕ) (test : ℕ → Bool) → p < n → test p ≡ true → 1 ≤ countBelow n test
+unfolding countBelow
+some-counted zero p test l h = absurd (omega arith)
+some-counted (suc n) p test l h = by-test (eqb p n) (λ e. rw (sym (eqb-true p n e), h) (omega arith)) (λ e. le-trans (some-counted n p test (omega (arith, eqb-false p n e, l)) h) (omega arith))
+
+pub counted-once : (n p : ℕ) (test : ℕ → Bool) → p < n → test p ≡ true → eqb (countBelow n test) 1 ≡ allBelow n (otherwise test p)
+unfolding countBelow allBelow
+counted-once zero p test l h = absurd (omega arith)
+counted-once (suc n) p test l h = by-test (eqb p n) at-last (λ e. before-last e (λ less. counted-once n p test less h))
+  where
+    at-last : eqb p n ≡ true → eqb (countBelow (suc n) test) 1 ≡ allBelow (suc n) (otherwise test p)
+    at-last e =
+        let same : p ≡ n = eqb-true p n e in
+        rw (sym same, h, eq-eqb p p refl) (none-counted p p test (omega arith) ∙ sym (and-true (allBelow p (otherwise test p))))
+
+    before-last : eqb p n ≡ false → (p < n → eqb (countBelow n test) 1 ≡ allBelow n (otherwise test p)) → eqb (countBelow (suc n) test) 1 ≡ allBelow (suc n) (otherwise test p)
+    before-last e ih =
+        let less : p < n = omega (arith, eqb-false p n e, l) in
+        by-test (test n)
+        (λ t. rw (t, ne-eqb n p (λ d. absurd (omega (arith, d, less)))) (ne-eqb (countBelow n test + 1) 1 (λ d. absurd (omega (arith, d, some-counted n p test less h))) ∙ sym (and-false (allBelow n (otherwise test p)))))
+        (λ t. rw (t, ne-eqb n p (λ d. absurd (omega (arith, d, less))), add-zero) (ih less ∙ sym (and-true (allBelow n (otherwise test p)))))
+
 -- ---- the tags of a mask's peers
 
 module _ (mask : ℕ) (tags : List ℕ) where
-  module _ (tag : ℕ) where
-    pub tag-taken : (q : ℕ) → q < 16 → bitOf mask q ≡ true → getD tags q 0 ≡ tag → tagFree mask tag tags ≡ false
-    unfolding tagFree
-    tag-taken q l e same = all-broken 16 (hasOther mask tag tags) q l (rw (e, eq-eqb (getD tags q 0) tag same))
-
-    pub tag-found-free : ((q : ℕ) → bitOf mask q ≡ true → getD tags q 0 ≡ tag → ⊥) → tagFree mask tag tags ≡ true
-    unfolding tagFree
-    tag-found-free h = all-made 16 (hasOther mask tag tags) (λ q l. go q (bitOf mask q) refl)
-      where
-        go : (q : ℕ) (t : Bool) → bitOf mask q ≡ t → not (t && eqb (getD tags q 0) tag) ≡ true
-        go q true e = rw (ne-eqb (getD tags q 0) tag (h q e))
-        go q false e = refl
-
-    pub free-read : mask < 2 ^ 16 → tagFree mask tag tags ≡ true → (q : ℕ) → bitOf mask q ≡ true → getD tags q 0 ≡ tag → ⊥
-    unfolding tagFree
-    free-read l h q e same = eqb-false (getD tags q 0) tag (not-true _ (rw e at (all-at 16 (hasOther mask tag tags) h q (bit-within 16 mask q l e)))) same
-
-    pub taken-read : tagFree mask tag tags ≡ false → (q : ℕ) × (q < 16) × (bitOf mask q ≡ true) × (getD tags q 0 ≡ tag)
-    unfolding tagFree
-    taken-read h =
-        let (q, l, f) = all-found 16 (hasOther mask tag tags) h in
-        let (e, same) = both (bitOf mask q) (eqb (getD tags q 0) tag) (not-false _ f) in
-        (q, l, e, eqb-true (getD tags q 0) tag same)
-
   module _ (p q : ℕ) where
     pub apart-read : tagsDiffer mask tags p q ≡ true → bitOf mask p ≡ true → bitOf mask q ≡ true → getD tags p 0 ≡ getD tags q 0 → ⊥
     apart-read e hp hq same = eqb-false (getD tags p 0) (getD tags q 0) (not-true _ (rw (hp, hq) at e)) same
@@ -115,18 +138,33 @@ module _ (waiting requests ticks : ℕ) (tags sent : List ℕ) where
       go true d = rw (apart-broken waiting tags p q lp (ltb-true q p d) hp hq same) (and-false (allBelow 16 (keptOrRests waiting requests ticks tags sent)))
       go false d = rw (apart-broken waiting tags q p lq (omega (arith, ltb-false q p d, other)) hq hp (sym same)) (and-false (allBelow 16 (keptOrRests waiting requests ticks tags sent)))
 
-  -- the next peer: its tag is compared with those that are left after it
+  -- the next peer: its tag is looked for in the sixteen places, of which those of the others hold 0
   module _ {rest : ℕ} (s : Passed waiting rest (Waiter waiting requests ticks tags sent)) (some : 0 < rest) where
-    pub waiter-next : waiterKept requests ticks (getD tags (next rest) 0) (getD sent (next rest) 0) ≡ true
-        → tagFree (after rest) (getD tags (next rest) 0) tags ≡ true → Waiter waiting requests ticks tags sent (next rest)
-    waiter-next kept free = record { kept = kept; alone = λ r e other same. go r e other same (bitOf rest r) refl }
-      where
-        go : (r : ℕ) → bitOf waiting r ≡ true → (r ≡ next rest → ⊥) → getD tags r 0 ≡ getD tags (next rest) 0 → (t : Bool) → bitOf rest r ≡ t → ⊥
-        go r e other same true d = free-read (after rest) tags (getD tags (next rest) 0) (after-fits s some) free r (after-other s some r other ∙ d) same
-        go r e other same false d = s .done r e d .alone (next rest) (next-among s some) (λ z. other (sym z)) (sym same)
+    place : (t : Bool) → tagAlone (getD tags (next rest) 0) tags ≡ t → allBelow 16 (otherwise (hasTag (getD tags (next rest) 0) tags) (next rest)) ≡ t
+    unfolding tagAlone
+    place t e = sym (counted-once 16 (next rest) (hasTag (getD tags (next rest) 0) tags) (next-within s some) (eq-eqb (getD tags (next rest) 0) (getD tags (next rest) 0) refl)) ∙ e
 
-    pub waiter-clash : tagFree (after rest) (getD tags (next rest) 0) tags ≡ false → waitersKept waiting requests ticks tags sent ≡ false
-    waiter-clash taken =
-        let (q, l, left, same) = taken-read (after rest) tags (getD tags (next rest) 0) taken in
-        let (other, waits) = after-left s some q left in
-        tags-broken (next rest) q (next-within s some) l other (next-among s some) waits (sym same)
+    pub waiter-next : waiting < 2 ^ 16 → waiterKept requests ticks (getD tags (next rest) 0) (getD sent (next rest) 0) ≡ true
+        → tagAlone (getD tags (next rest) 0) tags ≡ true → Waiter waiting requests ticks tags sent (next rest)
+    waiter-next fits kept alone =
+        record {
+          kept = kept;
+          alone =
+              λ r e other same.
+              let here = all-at 16 (otherwise (hasTag (getD tags (next rest) 0) tags) (next rest)) (place true alone) r (bit-within 16 waiting r fits e) in
+              eqb-false _ _ (not-true _ (rw (ne-eqb r (next rest) other) at here)) same;
+        }
+
+    pub waiter-clash : othersIdle waiting tags sent ≡ true → waiterKept requests ticks (getD tags (next rest) 0) (getD sent (next rest) 0) ≡ true
+        → tagAlone (getD tags (next rest) 0) tags ≡ false → waitersKept waiting requests ticks tags sent ≡ false
+    unfolding othersIdle
+    waiter-clash idle kept taken =
+        let (q, l, f) = all-found 16 (otherwise (hasTag (getD tags (next rest) 0) tags) (next rest)) (place false taken) in
+        let (there, has) = neither _ _ f in
+        let same : getD tags q 0 ≡ getD tags (next rest) 0 = eqb-true _ _ (not-false _ has) in
+        let least : 1 ≤ getD tags (next rest) 0 = leb-true _ _ (both _ _ (both _ _ kept .0) .0) in
+        by-test (bitOf waiting q)
+        (λ t. tags-broken (next rest) q (next-within s some) l (eqb-false _ _ there) (next-among s some) t (sym same))
+        (λ t.
+        let none : getD tags q 0 ≡ 0 = eqb-true _ _ (both _ _ (rw t at (all-at 16 (idleOrWaits waiting tags sent) idle q l)) .0) in
+        absurd (omega (arith, none, same, least)))

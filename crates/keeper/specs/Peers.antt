@@ -4,7 +4,7 @@ use mathlib.Core.List.{List}
 use Prim.Native.Nat.{ℕ}
 use lib.Dec.{eqb}
 use lib.ListN.{getD}
-use Rattle.keeper.specs.State.{bitOf, allBelow, waiterKept, idleKept, tagsDiffer}
+use Rattle.keeper.specs.State.{bitOf, allBelow, countBelow, waiterKept, idleKept, tagsDiffer}
 
 -- each peer that does not wait holds 0 for both
 abbrev pub idleOrWaits : ℕ → List ℕ → List ℕ → ℕ → Bool
@@ -13,12 +13,12 @@ idleOrWaits waiting tags sent p = bitOf waiting p || idleKept (getD tags p 0) (g
 unfoldable pub othersIdle : ℕ → List ℕ → List ℕ → Bool
 othersIdle waiting tags sent = allBelow 16 (idleOrWaits waiting tags sent)
 
--- no peer of the mask has the tag
-abbrev pub hasOther : ℕ → ℕ → List ℕ → ℕ → Bool
-hasOther mask tag tags p = not (bitOf mask p && eqb (getD tags p 0) tag)
+-- exactly one of the sixteen places has the tag
+abbrev pub hasTag : ℕ → List ℕ → ℕ → Bool
+hasTag tag tags q = eqb (getD tags q 0) tag
 
-unfoldable pub tagFree : ℕ → ℕ → List ℕ → Bool
-tagFree mask tag tags = allBelow 16 (hasOther mask tag tags)
+unfoldable pub tagAlone : ℕ → List ℕ → Bool
+tagAlone tag tags = eqb (countBelow 16 (hasTag tag tags)) 1
 
 -- each waiting peer's tag and tick count are in order, and no two have one tag
 abbrev pub keptOrRests : ℕ → ℕ → ℕ → List ℕ → List ℕ → ℕ → Bool

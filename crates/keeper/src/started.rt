@@ -10,9 +10,11 @@ use command::limits::claim_within;
 use command::limits::edges_within;
 use moment::Interval;
 ghost use mathlib.Core.Path.{_≡_};
-ghost use Rattle.keeper.specs.State.{countsAsStarted};
+ghost use mathlib.Core.Bool.{true};
+ghost use Prim.Native.Nat.{_≤_};
+ghost use Rattle.keeper.specs.State.{one, countsAsStarted};
 ghost use Rattle.keeper.specs.Numbers.{numbersKept};
-ghost use Rattle.keeper.specs.Peers.{othersIdle, tagFree, waitersKept};
+ghost use Rattle.keeper.specs.Peers.{othersIdle, tagAlone, waitersKept};
 
 pub const MOST_TICKS: u64 = 4000000000000000000;
 
@@ -34,22 +36,26 @@ fn others_idle<'a>(waiting: u16, tags: &'a [u32; 16], sent_at: &'a [u64; 16]) ->
     true
 }
 
-// No peer of the mask has the tag. Only the peers of the mask are looked at: the lowest bit that is set is taken off until none is left.
-fn tag_free(mask: u16, tag: u32, tags: &[u32; 16]) -> bool
-    ensures { λ r. ⌜ r ≡ tagFree mask tag (now (tags .entry)) ⌝ }
+fn once(same: bool) -> u32
+    ensures { λ r. ⌜ (r ≡ one same) × (r ≤ 1) ⌝ }
 {
-    let mut rest = mask;
-    while rest != 0 {
-        let q = u16::trailing_zeros(rest) as usize;
-        if tags[q] == tag {
-            return false;
-        }
-        rest = rest & (rest - 1);
-    }
-    true
+    if same { 1 } else { 0 }
 }
 
-// Each waiting peer is in order, and its tag is none of those that wait after it.
+// Exactly one of the sixteen places has the tag. The places are counted without a branch, so that several are compared at once.
+fn tag_alone(tag: u32, tags: &[u32; 16]) -> bool
+    ensures { λ r. ⌜ r ≡ tagAlone tag (now (tags .entry)) ⌝ }
+{
+    let mut times: u32 = 0;
+    let mut q: usize = 0;
+    while q < 16 {
+        times += once(tags[q] == tag);
+        q += 1;
+    }
+    times == 1
+}
+
+// Each waiting peer is in order, and no other place has its tag: the places of the others hold 0, which is no tag.
 fn waiters_kept<'a>(
     waiting: u16,
     requests: u32,
@@ -57,6 +63,7 @@ fn waiters_kept<'a>(
     tags: &'a [u32; 16],
     sent_at: &'a [u64; 16],
 ) -> bool
+    requires { ⌜ othersIdle waiting (now tags) (now «sent_at») ≡ true ⌝ }
     ensures { λ r. ⌜ r ≡ waitersKept waiting requests ticks (now (tags .entry)) (now («sent_at» .entry)) ⌝ }
 {
     let mut rest = waiting;
@@ -67,7 +74,7 @@ fn waiters_kept<'a>(
         if !waiter_kept(requests, ticks, tag, sent_at[p]) {
             return false;
         }
-        if !tag_free(rest, tag, tags) {
+        if !tag_alone(tag, tags) {
             return false;
         }
     }

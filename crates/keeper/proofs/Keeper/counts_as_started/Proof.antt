@@ -84,7 +84,7 @@ returns-5 c =
     )
 
 waiters-kept-requires : tie.Need-waiters-kept-requires
-waiters-kept-requires c κs = search needs
+waiters-kept-requires c κs = sym (c .before .before .before .others-idle .ensures) ∙ not-false _ (c .before .before .if5 .left)
 
 returns-6 : tie.Need-returns-6
 returns-6 c =

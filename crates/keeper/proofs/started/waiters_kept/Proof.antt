@@ -54,15 +54,15 @@ returns c =
     let some : 0 < c .before .before .before .before .before .loop .rest = omega (arith, c .before .before .before .before .loop-test .taken) in
     sym (waiter-broken (x .waiting) (x .requests) (x .ticks) (now (x .tags)) (now (x .sent-at)) _ (next-within s some) (next-among s some) (sym (c .before .waiter-kept .ensures) ∙ not-true _ (c .if1 .taken)))
 
-tag-free-requires : tie.Need-tag-free-requires Inv-loop μ-loop
-tag-free-requires c κs = search needs
+tag-alone-requires : tie.Need-tag-alone-requires Inv-loop μ-loop
+tag-alone-requires c κs = search needs
 
 returns-2 : tie.Need-returns-2 Inv-loop μ-loop
 returns-2 c =
     let x = c .before .before .before .before .before .before .before .before .args in
     let s = c .before .before .before .before .before .before .before .loop .inv in
     let some : 0 < c .before .before .before .before .before .before .before .loop .rest = omega (arith, c .before .before .before .before .before .before .loop-test .taken) in
-    sym (waiter-clash (x .waiting) (x .requests) (x .ticks) (now (x .tags)) (now (x .sent-at)) s some (sym (c .before .tag-free .ensures) ∙ not-true _ (c .if2 .taken)))
+    sym (waiter-clash (x .waiting) (x .requests) (x .ticks) (now (x .tags)) (now (x .sent-at)) s some (c .before .before .before .before .before .before .before .before .pre) (sym (c .before .before .before .waiter-kept .ensures) ∙ not-false _ (c .before .before .if1 .left)) (sym (c .before .tag-alone .ensures) ∙ not-true _ (c .if2 .taken)))
 
 loop-less : tie.Need-loop-less Inv-loop μ-loop
 loop-less c =
@@ -75,7 +75,7 @@ loop-again c =
     let s = c .before .before .before .before .before .before .before .loop .inv in
     let some : 0 < c .before .before .before .before .before .before .before .loop .rest = omega (arith, c .before .before .before .before .before .before .loop-test .taken) in
     passed-more s some
-    (waiter-next (x .waiting) (x .requests) (x .ticks) (now (x .tags)) (now (x .sent-at)) s some (sym (c .before .before .before .waiter-kept .ensures) ∙ not-false _ (c .before .before .if1 .left)) (sym (c .before .tag-free .ensures) ∙ not-false _ (c .if2 .left)))
+    (waiter-next (x .waiting) (x .requests) (x .ticks) (now (x .tags)) (now (x .sent-at)) s some (omega arith) (sym (c .before .before .before .waiter-kept .ensures) ∙ not-false _ (c .before .before .if1 .left)) (sym (c .before .tag-alone .ensures) ∙ not-false _ (c .if2 .left)))
 
 returns-3 : tie.Need-returns-3 Inv-loop μ-loop
 returns-3 c =
@@ -98,7 +98,7 @@ waiters-kept-spec =
     element-copy-out-waiter-kept
     waiter-kept-requires
     returns
-    tag-free-requires
+    tag-alone-requires
     returns-2
     loop-less
     loop-again
