@@ -23,7 +23,7 @@ mul-once : tie.Need-mul-once Inv-loop μ-loop
 mul-once c = omega arith
 
 element-copy-out-once : tie.Need-element-copy-out-once Inv-loop μ-loop
-element-copy-out-once c = c .loop-test .taken
+element-copy-out-once c = omega (arith, c .loop-test .taken)
 
 once-requires : tie.Need-once-requires Inv-loop μ-loop
 once-requires c κs = search needs
