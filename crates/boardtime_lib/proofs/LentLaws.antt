@@ -1,12 +1,18 @@
 -- The laws of a lent image: one of another length, a refused call, and an accepted one.
 use mathlib.Core.Path.{_≡_, refl, ap, _∙_}
+use mathlib.Core.Bool.{false}
 use mathlib.Core.List.{List}
 use Prim.Native.Nat.{ℕ, _+_, _*_}
 use borrow.Author.Tests.{eq-eqb, ne-eqb}
 use lib.ListN.{length}
+use native.Mathlib.Omega.{arith}
+use Rattle.command.specs.Limits.{ticksWithin}
 use Rattle.command.specs.declared.Command.the-variants as C
-use Rattle.keeper.specs.State.{fresh}
-use Rattle.keeper.specs.Apply.{apply, numberOf}
+use Rattle.keeper.specs.State.{fresh, stateOf}
+use Rattle.keeper.specs.Refusals.{refusal, first, causes}
+use Rattle.keeper.specs.Apply.{apply, numberOf, outcomeOf}
+use Rattle.keeper.specs.declared.Answer.the-variants as A
+use Rattle.keeper.proofs.CallLaws.{apply-refused}
 use Rattle.keeper.specs.declared.Keeper.{Keeper}
 use Rattle.keeper.specs.declared.Outcome.{Outcome}
 use Rattle.line.specs.Call.{Called}
@@ -58,3 +64,16 @@ module _ (image : List ℕ) (whole : length image ≡ imageLength) where
   pub pass-moved : {image′ : List ℕ} {k : Keeper} {ticks number : ℕ} {o : Outcome} → k ≡ keeperIn image → o ≡ apply k (C.Pass ticks) → number ≡ numberOf (o .answer)
       → image′ ≡ imageLeft image number (o .keeper) → PassLent image ticks number image′
   pass-moved e f g left = record { other-length = λ h. absurd (h whole); number-is = λ _. rw (f, e) at g; image-is = λ _. rw (f, e) at left }
+
+  -- a number of ticks above the limit: the second cause is the first that can hold of a pass
+  pub pass-too-long : (ticks : ℕ) → ticksWithin ticks ≡ false → PassLent image ticks 2 image
+  unfolding refusal first causes stateOf
+  pass-too-long ticks outside =
+      let too-long : apply (keeperIn image) (C.Pass ticks) ≡ outcomeOf (A.Refused 2) (keeperIn image) =
+      apply-refused (keeperIn image) (C.Pass ticks) 2 refl (rw outside)
+      in
+      record {
+        other-length = λ h. absurd (h whole);
+        number-is = λ _. rw too-long;
+        image-is = λ _. left-refused 2 _ (λ e. let z : _≡_ {A = ℕ} 2 0 = e in omega arith);
+      }

@@ -1,5 +1,6 @@
 // The keeper for firmware in C and Rust: functions on numbers and lent bytes. The keeper crosses as an image (crate `image`), which a board
 // may keep over a reset. What a caller owes is in include/boardtime.h: valid buffers that do not overlap and that nothing else uses meanwhile.
+use command::limits::ticks_within;
 use image::is_image;
 use image::load::load;
 use image::store::store;
@@ -11,6 +12,9 @@ ghost use Rattle.boardtime_lib.specs.Lent.{FreshLent, LineLent, PassLent
 
 // Returned for a buffer that has not the length of an image. No refusal of document 01 or 02 has this number.
 pub const WRONG_LENGTH: u8 = 255;
+
+// Document 01's number for a number outside its limits.
+const OUTSIDE_LIMITS: u8 = 2;
 
 // Stores the image of a fresh keeper.
 #[no_mangle]
@@ -44,15 +48,19 @@ pub extern "C" fn boardtime_line(image: &mut [u8], line: &[u8], out: &mut [u8]) 
     answered
 }
 
-// Moves the keeper on by a number of ticks, as the line '(pass TICKS)' does, and writes no line.
+// Moves the keeper on by a number of ticks, as the line '(pass TICKS)' does, and writes no line. The number has 64 bits, so that a caller's
+// number is never cut short on the way in: one above the limit is refused, whatever its lower half is.
 #[no_mangle]
-pub extern "C" fn boardtime_pass(image: &mut [u8], ticks: u32) -> u8
+pub extern "C" fn boardtime_pass(image: &mut [u8], ticks: u64) -> u8
     ensures { λ r. ⌜ PassLent (now (image .entry)) ticks r (now (image .exit)) ⌝ }
 {
     if !is_image(image) {
         return WRONG_LENGTH;
     }
-    let outcome = load(image).pass(ticks);
+    if !ticks_within(ticks) {
+        return OUTSIDE_LIMITS;
+    }
+    let outcome = load(image).pass(ticks as u32);
     let answer = outcome.answer;
     let next = outcome.keeper;
     let refusal = number_of(answer);
