@@ -1,0 +1,134 @@
+-- Laws of lines that are answered one after the other: none, and one more.
+use mathlib.Core.Path.{_≡_, refl, sym, ap, _∙_}
+use mathlib.Core.Bool.{Bool, true, false}
+use mathlib.Core.List.{List, [], _∷_, _++_, append-assoc, append-nil}
+use Prim.Native.Nat.{ℕ, suc, _+_, _-_, _≤_, _<_}
+use native.Mathlib.Omega.{arith}
+use native.Mathlib.Numerals.{add-one}
+use borrow.Author.Tests.{le-ltb}
+use lib.ListN.{length, take, drop, length-append, length-drop, drop-of-length-le}
+use lib.Seq.{take-all, take-at, drop-at, drop-drop}
+use Rattle.keeper.specs.declared.Keeper.{Keeper}
+use Rattle.line.specs.Call.{leastOutput, answered, keeperAfter, Wrote, Called}
+use Rattle.lines.specs.Lines.{lf, breaks, lineLength, joined}
+use Rattle.lines.proofs.LineLaws.{joined-append, unbroken-append, line-whole, line-unbroken, whole-breaks, open-breaks}
+use Rattle.stream.specs.Stream.{through, Answers}
+use Rattle.stream.proofs.Answering.{through-append, answers-append}
+use Rattle.serve.specs.Serving.{keeperNext, IsAnswer, Answered, LinesAnswered}
+
+-- the keeper after a line does not depend on the room, where there is enough
+pub room-enough : (k : Keeper) (l : List ℕ) (room : ℕ) → leastOutput ≤ room → keeperAfter k l room ≡ keeperNext k l
+unfolding keeperAfter
+room-enough k l room h = rw (le-ltb room leastOutput h)
+
+pub none-answered : (k : Keeper) (bytes out : List ℕ) → Answered k bytes out k bytes 0 out
+unfolding through joined
+none-answered k bytes out =
+    record {
+      lines = [];
+      written = [];
+      bytes-are = refl;
+      whole = tt;
+      keeper-is = refl;
+      answers = refl;
+      output = refl;
+      filled-is = refl;
+    }
+
+-- bytes and an LF written behind what was written before
+more-written : (w before out b : List ℕ) (filled : ℕ) → out ≡ w ++ drop (length w) before → filled ≡ length w
+    → take filled out ++ (b ++ lf ∷ drop (length b + 1) (drop filled out)) ≡ w ++ (b ++ lf ∷ []) ++ drop (length (w ++ (b ++ lf ∷ []))) before
+more-written w before out b filled e f =
+    let front : take filled out ≡ w = ap (λ (o : List ℕ). take filled o) e ∙ take-at w (drop (length w) before) filled (sym f) in
+    let behind : drop filled out ≡ drop (length w) before = ap (λ (o : List ℕ). drop filled o) e ∙ drop-at w (drop (length w) before) filled (sym f) in
+    let size : length (w ++ (b ++ lf ∷ [])) ≡ length w + (length b + 1) = rw (length-append w (b ++ lf ∷ []), length-append b (lf ∷ [])) in
+    rw (front, behind, drop-drop (length b + 1) (length w) before, size, append-assoc w (b ++ lf ∷ []), append-assoc b (lf ∷ []))
+
+-- One more line: `l` ends at an LF, the call answered it behind what was written, and `more` follows.
+pub one-answered : (l more : List ℕ) {k now next : Keeper} {bytes before rest out part out′ : List ℕ} {filled number n : ℕ}
+    → Answered k bytes before now rest filled out → rest ≡ l ++ lf ∷ more → breaks l ≡ 0 → leastOutput ≤ length (drop filled out)
+    → Called now l (drop filled out) number next part n → out′ ≡ take filled out ++ part → Answered k bytes before next more (filled + n) out′
+unfolding through joined
+one-answered l more {k} {now} {next} {bytes} {before} {rest} {out} {part} {out′} {filled} {number} {n} a here unbroken room called e =
+    let wrote = called .written room in
+    let b = wrote .bytes in
+    record {
+      lines = a .lines ++ l ∷ [];
+      written = a .written ++ (b ++ lf ∷ []);
+      bytes-are =
+          a .bytes-are
+          ∙ ap (λ (r : List ℕ). joined (a .lines) ++ r) here
+          ∙ sym (rw (joined-append (a .lines) (l ∷ []), append-assoc (joined (a .lines)) (l ++ lf ∷ []) more, append-assoc l (lf ∷ []) more));
+      whole = unbroken-append (a .lines) (l ∷ []) (a .whole) (unbroken, tt);
+      keeper-is =
+          called .keeper-is
+          ∙ room-enough now l (length (drop filled out)) room
+          ∙ ap (λ (x : Keeper). keeperNext x l) (a .keeper-is)
+          ∙ sym (through-append keeperNext k (a .lines) (l ∷ []));
+      answers =
+          answers-append keeperNext IsAnswer k (a .lines) (l ∷ []) (a .written) (b ++ lf ∷ []) (a .answers) (
+            b ++ lf ∷ [],
+            [],
+            rw (sym (a .keeper-is)) (record { bytes = b; line = wrote .line; ended = refl }),
+            refl,
+            sym (append-nil (b ++ lf ∷ [])),
+          );
+      output = e ∙ ap (λ (x : List ℕ). take filled out ++ x) (wrote .output) ∙ more-written (a .written) before out b filled (a .output) (a .filled-is);
+      filled-is = rw (length-append (a .written) (b ++ lf ∷ []), length-append b (lf ∷ [])) (omega (arith, a .filled-is, wrote .written));
+    }
+
+-- ---- in the buffers of the program
+
+-- the part of an output that is lent, and that comes back
+part-lent : (out : List ℕ) (filled : ℕ) → take (length out - filled) (drop filled out) ≡ drop filled out
+part-lent out filled = take-all (length out - filled) (drop filled out) (simp length-drop (omega arith))
+
+part-back : (out part : List ℕ) (filled : ℕ) → take filled out ++ (part ++ drop (length out - filled) (drop filled out)) ≡ take filled out ++ part
+part-back out part filled =
+    let past : length (drop filled out) ≤ length out - filled = simp length-drop (omega arith) in
+    rw (drop-of-length-le (drop filled out) past, append-nil part)
+
+-- The line that begins at `next` ends at the LF at `at`: the call with it, on the part of the output behind what is filled.
+pub line-answered : (bytes : List ℕ) (from at : ℕ) {k now next : Keeper} {all before out part : List ℕ} {filled number n : ℕ}
+    → Answered k all before now (drop from bytes) filled out → at ≡ from + lineLength (drop from bytes) → at < length bytes
+    → filled + leastOutput ≤ length out
+    → Called now (take (at - from) (drop from bytes)) (take (length out - filled) (drop filled out)) number next part n
+    → Answered k all before next (drop (at + 1) bytes) (filled + n) (take filled out ++ (part ++ drop (length out - filled) (drop filled out)))
+line-answered bytes from at {out = out} {part = part} {filled = filled} a e within room called =
+    let rest = drop from bytes in
+    let size : at - from ≡ lineLength rest = omega arith in
+    let ends : lineLength rest < length rest = simp length-drop (omega arith) in
+    let place : from + suc (lineLength rest) ≡ at + 1 = omega arith in
+    let behind : drop (suc (lineLength rest)) rest ≡ drop (at + 1) bytes = rw (drop-drop (suc (lineLength rest)) from bytes, place) in
+    one-answered (take (at - from) rest) (drop (at + 1) bytes) a
+    (line-whole rest ends ∙ rw (size, behind))
+    (rw size (line-unbroken rest))
+    (simp length-drop (omega arith))
+    (rw (part-lent out filled) at called)
+    (part-back out part filled)
+
+-- what is written lies within the output
+pub filled-within : (out : List ℕ) (filled : ℕ) {k next : Keeper} {l part : List ℕ} {number n : ℕ} → filled ≤ length out
+    → Called k l (take (length out - filled) (drop filled out)) number next part n → filled + n ≤ length out
+filled-within out filled h called = omega (arith, called .within, length-drop filled out, ap length (part-lent out filled))
+
+-- the end: a whole line is left and there is no room, or none is left
+pub stopped-full : (bytes : List ℕ) (from at : ℕ) {k now : Keeper} {all before out : List ℕ} {filled : ℕ}
+    → Answered k all before now (drop from bytes) filled out → at ≡ from + lineLength (drop from bytes) → at < length bytes
+    → length before < filled + leastOutput → LinesAnswered k all before now (drop from bytes) filled true out
+stopped-full bytes from at a e within room =
+    record {
+      answered = a;
+      more = λ _. (whole-breaks (drop from bytes) (simp length-drop (omega arith)), room);
+      done = λ t. absurd (let z : _≡_ {A = ℕ} 0 1 = cc in omega arith);
+    }
+
+pub stopped-done : (bytes : List ℕ) (from at : ℕ) {k now : Keeper} {all before out : List ℕ} {filled : ℕ}
+    → Answered k all before now (drop from bytes) filled out → at ≡ from + lineLength (drop from bytes) → length bytes ≤ at
+    → LinesAnswered k all before now (drop from bytes) filled false out
+stopped-done bytes from at a e past =
+    record {
+      answered = a;
+      more = λ t. absurd (let z : _≡_ {A = ℕ} 0 1 = cc in omega arith);
+      done = λ _. open-breaks (drop from bytes) (simp length-drop (omega arith));
+    }

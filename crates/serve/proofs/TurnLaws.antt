@@ -1,0 +1,95 @@
+-- Laws of a turn: from lines that were answered to what is left and held.
+use mathlib.Core.Path.{_≡_, refl, sym, ap, _∙_}
+use mathlib.Core.Bool.{Bool, true, false}
+use mathlib.Core.List.{List, [], _∷_, _++_}
+use Prim.Native.Nat.{ℕ, suc, _+_, _≤_, _<_}
+use native.Mathlib.Omega.{arith}
+use borrow.Author.Tests.{leb-true, leb-false}
+use lib.Dec.{leb}
+use lib.ListN.{length, take, drop, length-append, length-take, drop-of-length-le}
+use lib.Seq.{take-at, drop-at}
+use Rattle.keeper.specs.declared.Keeper.{Keeper}
+use Rattle.line.specs.Call.{leastOutput}
+use Rattle.reader.specs.Reading.{longestLine}
+use Rattle.lines.specs.Lines.{breaks, heldOf, Held}
+use Rattle.lines.proofs.LineLaws.{by-test}
+use Rattle.stream.specs.Stream.{Answers, Turn}
+use Rattle.serve.specs.Serving.{keeperNext, IsAnswer, Answered, LinesAnswered}
+use Rattle.serve.specs.Turning.{between, InOrder}
+use Rattle.serve.specs.declared.turn.Stream.{Stream}
+
+module _ {k next : Keeper} {bytes before rest after : List ℕ} {filled : ℕ} (a : Answered k bytes before next rest filled after) where
+  -- the front of the output is what was written, and the rest is as it was
+  pub front-written : take filled after ≡ a .written
+  front-written =
+      ap (λ (o : List ℕ). take filled o) (a .output) ∙ take-at (a .written) (drop (length (a .written)) before) filled (sym (a .filled-is))
+
+  pub beyond-kept : drop filled after ≡ drop filled before
+  beyond-kept =
+      ap (λ (o : List ℕ). drop filled o) (a .output)
+      ∙ drop-at (a .written) (drop (length (a .written)) before) filled (sym (a .filled-is))
+      ∙ ap (λ (n : ℕ). drop n before) (sym (a .filled-is))
+
+  pub filled-most : filled ≤ length after
+  filled-most = omega (arith, a .filled-is, ap length (a .output), length-append (a .written) (drop (length (a .written)) before))
+
+-- what was written for no line is nothing
+some-line : (k : Keeper) (ls : List (List ℕ)) (o : List ℕ) → Answers keeperNext IsAnswer k ls o → 0 < length o → 0 < length ls
+some-line k [] o e h = absurd (omega (arith, ap length e))
+some-line k (l ∷ ls) o f h = omega arith
+
+-- an LF behind a place shows that the place lies within
+pub place-within : (s : List ℕ) (i : ℕ) → 0 < breaks (drop i s) → i < length s
+unfolding breaks
+place-within s i h =
+    by-test (leb (length s) i)
+    (λ t. absurd (let past : length s ≤ i = leb-true (length s) i t in let k = rw (drop-of-length-le s past) at h in omega arith))
+    (λ t. leb-false (length s) i t)
+
+module _ {k next : Keeper} {bytes before rest after : List ℕ} {filled : ℕ} {full : Bool} where
+  -- the output had no room left
+  pub turned-full : LinesAnswered k bytes before next rest filled full after → full ≡ true → leastOutput ≤ length before
+      → Turn keeperNext IsAnswer longestLine k bytes next rest (take filled after) true
+  turned-full l t room =
+      let a = l .answered in
+      let some : 0 < length (a .written) = omega (arith, l .more t .1, a .filled-is) in
+      record {
+        lines = a .lines;
+        rest = rest;
+        bytes-are = a .bytes-are;
+        whole = a .whole;
+        state-is = a .keeper-is;
+        answers = rw (front-written a) (a .answers);
+        more = λ _. (refl, l .more t .0, some-line k (a .lines) (a .written) (a .answers) some);
+        held = λ f. absurd (let z : _≡_ {A = ℕ} 0 1 = cc in omega arith);
+      }
+
+  -- every whole line is answered
+  pub turned-held : {left : List ℕ} → LinesAnswered k bytes before next rest filled full after → full ≡ false → left ≡ take (suc longestLine) rest
+      → Turn keeperNext IsAnswer longestLine k bytes next left (take filled after) false
+  turned-held l t e =
+      let a = l .answered in
+      record {
+        lines = a .lines;
+        rest = rest;
+        bytes-are = a .bytes-are;
+        whole = a .whole;
+        state-is = a .keeper-is;
+        answers = rw (front-written a) (a .answers);
+        more = λ f. absurd (let z : _≡_ {A = ℕ} 0 1 = cc in omega arith);
+        held = λ _. (e, l .done t);
+      }
+
+-- what is held stands at the front of the buffer
+pub held-front : {buffer held buffer′ : List ℕ} {n : ℕ} → Held buffer held buffer′ n → between buffer′ 0 n ≡ held
+held-front {buffer} {held} {buffer′} {n} h = ap (λ (b : List ℕ). take n b) (h .buffer) ∙ take-at held (drop (length held) buffer) n (sym (h .count))
+
+pub held-within : {buffer held buffer′ : List ℕ} {n : ℕ} → Held buffer held buffer′ n → n ≤ length buffer′
+held-within {buffer} {held} h = omega (arith, h .count, ap length (h .buffer), length-append held (drop (length held) buffer))
+
+pub held-most : (buffer : List ℕ) (from end most : ℕ) → length (heldOf buffer from end most) ≤ most
+held-most buffer from end most = rw (length-take most (drop from (take end buffer))) (omega arith)
+
+-- the places lie within another buffer of the same length
+pub in-order-kept : {s : Stream} {buffer buffer′ : List ℕ} → InOrder s buffer → length buffer′ ≡ length buffer → InOrder s buffer′
+in-order-kept o e = record { order = o .order; within = omega (arith, o .within, e); front = o .front }
