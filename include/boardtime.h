@@ -1,13 +1,15 @@
 /*
  * boardtime: the time keeper of a board, as a static library.
  *
+ * The library is an archive for x86-64 Linux, the only target that the kit
+ * builds for: target/staticlib/libboardtime_lib.a, which the command
+ * `rt staticlib boardtime_lib` proves and builds. For any other target this
+ * header stops the compiler.
+ *
  * The keeper is an image: an array of 232 bytes that the caller owns. A call
  * reads the image and answers; an accepted one stores the image of the keeper
  * after it, and a refused one leaves every byte as it was. The library holds
  * nothing between calls, allocates nothing and calls nothing but memcpy.
- *
- * Link with target/staticlib/libboardtime_lib.a, which the command
- * `rt staticlib boardtime_lib` proves and builds. The archive is for x86-64.
  *
  * What the caller owes:
  *   - every pointer is valid for the length that is passed with it, and is not
@@ -20,7 +22,9 @@
  *     main loop passes them. Calls on images and outputs that differ may run
  *     at the same time.
  * Nothing else is asked. Every call answers for all bytes, all lengths and all
- * numbers.
+ * numbers. What C makes of a number before the call is the caller's: a length
+ * of -1, as `read` gives for an error, arrives as the largest size_t, for which
+ * no pointer is valid.
  *
  * Layout of an image. Numbers are little-endian.
  *
@@ -56,10 +60,21 @@
  * no longer hold the true time. A reset in the middle of a call may leave an
  * image of which only a part is stored, and not every such image counts as not
  * started. A board that can be reset at any time makes the call on a copy and
- * stores the copy with a check of its own.
+ * stores the copy with a check of its own; examples/c/store.h does that.
  */
 #ifndef BOARDTIME_H
 #define BOARDTIME_H
+
+/*
+ * Who builds for a target that the archive is not for learns it from the
+ * compiler and not from the linker. A tool that only reads the declarations,
+ * as a static analyser, or a test with a library of its own, defines
+ * BOARDTIME_ANY_TARGET. (x32 is x86-64 too, but its size_t has 32 bits.)
+ */
+#if !defined(BOARDTIME_ANY_TARGET) \
+    && !(defined(__x86_64__) && defined(__LP64__) && defined(__linux__))
+#error "libboardtime_lib.a is for x86-64 Linux alone"
+#endif
 
 #include <stddef.h>
 #include <stdint.h>
@@ -117,26 +132,37 @@ uint8_t boardtime_fresh(uint8_t *image, size_t image_length);
  * is stored at the front of the output, and no byte after it is touched.
  *
  * Returns the number (0, 1 to 10, or 255) and the length of the answer; take
- * them with BOARDTIME_NUMBER and BOARDTIME_LENGTH. The numbers 10 and 255 come
- * with length 0 and an untouched output; the numbers 1 to 9 come with the
- * answer `(no NUMBER)`.
+ * them with BOARDTIME_NUMBER and BOARDTIME_LENGTH. What is returned is not 0
+ * for an accepted line: its number is 0, but its answer has some length. The
+ * numbers 10 and 255 come with length 0 and an untouched output; the numbers 1
+ * to 9 come with the answer `(no NUMBER)`.
  */
 uint32_t boardtime_line(uint8_t *image, size_t image_length,
                         const uint8_t *line, size_t line_length,
                         uint8_t *out, size_t out_length);
 
 /* The number in what boardtime_line returned. */
-#define BOARDTIME_NUMBER(returned) ((uint8_t)((returned) & 255u))
+#define BOARDTIME_NUMBER(returned) \
+    ((uint8_t)(BOARDTIME_WHOLE(returned) & 255u))
 /* The length of the answer in what boardtime_line returned. */
-#define BOARDTIME_LENGTH(returned) ((size_t)((returned) >> 8))
+#define BOARDTIME_LENGTH(returned) ((size_t)(BOARDTIME_WHOLE(returned) >> 8))
+/* What boardtime_line returned, for these two. A variable of 8 or 16 bits has
+   lost the length or a part of it: for one the size of the array is negative,
+   and the compiler stops. The argument is evaluated once. */
+#define BOARDTIME_WHOLE(returned) \
+    ((uint32_t)(returned) + 0 * sizeof(char[sizeof(returned) < 4 ? -1 : 1]))
 
 /*
  * Lets ticks pass, as the line `(pass TICKS)` does, without a line.
  *
  * Returns 0; 2 if ticks is above 86400000; 3 if the keeper has not started;
  * 5 if an edge or the ticks would leave their range; or 255.
+ *
+ * No number of up to 64 bits is cut short on its way here, and a negative one
+ * arrives as one above 86400000. What the caller's own counter lost when it
+ * began again at 0 no call can see: one of 16 bits does so after 65 seconds.
  */
-uint8_t boardtime_pass(uint8_t *image, size_t image_length, uint32_t ticks);
+uint8_t boardtime_pass(uint8_t *image, size_t image_length, uint64_t ticks);
 
 #ifdef __cplusplus
 }

@@ -1,33 +1,53 @@
 //! Links libboardtime_lib.a from the folder in BOARDTIME_LIB_DIR, or else from
 //! the repository's target/staticlib, where `rt staticlib boardtime_lib`
-//! writes it.
+//! writes it. Refuses every target but the one that the archive is for.
 
 use std::env;
 use std::path::{Path, PathBuf};
+use std::process;
 
 const FOLDER: &str = "BOARDTIME_LIB_DIR";
 const ARCHIVE: &str = "libboardtime_lib.a";
+/// What cargo says of x86-64 Linux. The width of a pointer tells it from x32.
+const TARGET: [(&str, &str); 3] = [
+    ("CARGO_CFG_TARGET_ARCH", "x86_64"),
+    ("CARGO_CFG_TARGET_OS", "linux"),
+    ("CARGO_CFG_TARGET_POINTER_WIDTH", "64"),
+];
 
 fn main() {
     let folder = folder();
     let archive = folder.join(ARCHIVE);
     println!("cargo:rerun-if-env-changed={FOLDER}");
     println!("cargo:rerun-if-changed={}", archive.display());
-    assert!(
-        archive.is_file(),
-        "{} does not exist: run `rt staticlib boardtime_lib`, or name its folder in {FOLDER}",
-        archive.display()
-    );
+    if TARGET.iter().any(|(name, value)| variable(name) != *value) {
+        refuse(&format!(
+            "{ARCHIVE} is for x86-64 Linux alone, and this build is for {}",
+            variable("TARGET")
+        ));
+    }
+    if !archive.is_file() {
+        refuse(&format!(
+            "{} does not exist: run `rt staticlib boardtime_lib`, or name its folder in {FOLDER}",
+            archive.display()
+        ));
+    }
     println!("cargo:rustc-link-search=native={}", folder.display());
     println!("cargo:rustc-link-lib=static=boardtime_lib");
 }
 
+/// A relative path begins at the folder of this package.
 fn folder() -> PathBuf {
-    match env::var_os(FOLDER) {
-        Some(folder) => PathBuf::from(folder),
-        None => {
-            let package = env::var_os("CARGO_MANIFEST_DIR").expect("cargo sets it");
-            Path::new(&package).join("../target/staticlib")
-        }
-    }
+    let named = env::var_os(FOLDER).unwrap_or_else(|| "../target/staticlib".into());
+    Path::new(&variable("CARGO_MANIFEST_DIR")).join(named)
+}
+
+/// A variable that cargo sets for every build script.
+fn variable(name: &str) -> String {
+    env::var(name).unwrap_or_else(|_| panic!("cargo sets {name}"))
+}
+
+fn refuse(why: &str) -> ! {
+    eprintln!("{why}");
+    process::exit(1);
 }

@@ -3,6 +3,7 @@
  * with the image that it kept. Prints each line and, below it, the number
  * returned and the answer.
  */
+#include <inttypes.h>
 #include <stdio.h>
 #include <string.h>
 
@@ -22,11 +23,11 @@ static void answer(const char *line)
     fwrite(out, 1, BOARDTIME_LENGTH(returned), stdout);
 }
 
-static void pass_by_number(uint32_t ticks)
+static void pass_by_number(uint64_t ticks)
 {
     uint8_t number = boardtime_pass(image, sizeof image, ticks);
 
-    printf("pass by number: %lu\n%u\n", (unsigned long)ticks, (unsigned)number);
+    printf("pass by number: %" PRIu64 "\n%u\n", ticks, (unsigned)number);
 }
 
 /* Everything but the kept copy is lost. */
@@ -57,5 +58,6 @@ int main(void)
     answer("(read)");
     answer("(pass 12x7)");
     pass_by_number(86400001);
+    pass_by_number(4294967301);
     return 0;
 }

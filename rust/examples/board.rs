@@ -16,7 +16,7 @@ fn answer(keeper: &mut Keeper, line: &str) {
     );
 }
 
-fn pass_by_number(keeper: &mut Keeper, ticks: u32) {
+fn pass_by_number(keeper: &mut Keeper, ticks: u64) {
     let number = match keeper.pass(ticks) {
         Ok(()) => 0,
         Err(refusal) => refusal.number(),
@@ -49,4 +49,5 @@ fn main() {
     answer(&mut keeper, "(read)");
     answer(&mut keeper, "(pass 12x7)");
     pass_by_number(&mut keeper, 86_400_001);
+    pass_by_number(&mut keeper, 4_294_967_301);
 }

@@ -25,7 +25,7 @@ mod foreign {
             out: *mut u8,
             out_length: usize,
         ) -> u32;
-        pub fn boardtime_pass(image: *mut u8, image_length: usize, ticks: u32) -> u8;
+        pub fn boardtime_pass(image: *mut u8, image_length: usize, ticks: u64) -> u8;
     }
 }
 
@@ -51,14 +51,17 @@ pub fn line(image: &mut [u8], line: &[u8], out: &mut [u8]) -> Returned {
             out.len(),
         )
     };
+    let [number, ..] = returned.to_le_bytes();
     Returned {
-        number: (returned & 255) as u8,
+        number,
+        // No bit is lost: a usize has 64 on the one target of the library.
         length: (returned >> 8) as usize,
     }
 }
 
-/// Lets ticks pass. Returns 0, 2, 3, 5 or `WRONG_LENGTH`.
-pub fn pass(image: &mut [u8], ticks: u32) -> u8 {
+/// Lets ticks pass; more than 86400000 are refused with 2. Returns 0, 2, 3, 5
+/// or `WRONG_LENGTH`.
+pub fn pass(image: &mut [u8], ticks: u64) -> u8 {
     // SAFETY: as in `fresh`.
     unsafe { foreign::boardtime_pass(image.as_mut_ptr(), image.len(), ticks) }
 }

@@ -12,7 +12,8 @@
 //! assert_eq!(keeper.pass(86_400_001), Err(Refusal::OutsideRange));
 //! ```
 //!
-//! The crate needs no heap and no operating system.
+//! The crate needs no heap. The library is an archive for x86-64 Linux, and for
+//! another target the crate is not built.
 
 #![no_std]
 
@@ -26,6 +27,9 @@ pub const IMAGE_BYTES: usize = 232;
 
 /// Least length of the output for a line. No answer is longer.
 pub const OUTPUT_BYTES: usize = 256;
+
+/// Greatest length of a line without its LF; a longer one is refused with 1.
+pub const LINE_BYTES: usize = 120;
 
 /// A board's time keeper, held as its image.
 ///
@@ -75,9 +79,9 @@ impl Keeper {
         }
     }
 
-    /// Lets ticks pass, as `(pass TICKS)` does. A refused pass leaves the
-    /// keeper as it was.
-    pub fn pass(&mut self, ticks: u32) -> Result<(), Refusal> {
+    /// Lets ticks pass, as `(pass TICKS)` does; more than 86400000 are refused.
+    /// A refused pass leaves the keeper as it was.
+    pub fn pass(&mut self, ticks: u64) -> Result<(), Refusal> {
         refusal::result(image::pass(&mut self.image, ticks))
     }
 }

@@ -101,6 +101,18 @@ fn passes_by_number() {
     assert_eq!(keeper, by_line);
 }
 
+/// Of some of these the lowest 32 bits alone would be accepted.
+#[test]
+fn ticks_are_not_cut_short() {
+    for mut keeper in [Keeper::fresh(), started()] {
+        let before = keeper.clone();
+        for ticks in [1 << 32, (1 << 32) + 5, 1 << 63, u64::MAX] {
+            assert_eq!(keeper.pass(ticks), Err(Refusal::OutsideRange), "{ticks}");
+            assert_eq!(keeper, before, "{ticks}");
+        }
+    }
+}
+
 #[test]
 fn overflow_by_number() {
     let mut keeper = Keeper::fresh();

@@ -1,0 +1,15 @@
+# shellcheck shell=sh
+# Sourced, with `root` set to the repository's folder, by every script that
+# links the library. Finds cargo, then proves and builds the archive, so that
+# what is linked is what the sources say now. The archive's folder is set here
+# whatever the environment says: there, BOARDTIME_LIB_DIR is for builds of rust/
+# outside these scripts.
+
+# A shell without a profile does not find cargo where its installer puts it.
+command -v cargo >/dev/null || PATH=$PATH:${CARGO_HOME:-${HOME:-}/.cargo}/bin
+CARGO_TARGET_DIR=${CARGO_TARGET_DIR:-$root/target/cargo}
+BOARDTIME_LIB_DIR=$root/target/staticlib
+export PATH CARGO_TARGET_DIR BOARDTIME_LIB_DIR
+
+# Standard output is for what the scripts themselves print.
+(cd "$root" && rt staticlib boardtime_lib) >&2

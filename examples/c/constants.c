@@ -1,0 +1,210 @@
+/*
+ * Holds every constant of boardtime.h against the library: for each there is a
+ * call whose result must be that constant, or change where it says.
+ */
+#include <stdio.h>
+#include <string.h>
+
+#include "boardtime.h"
+
+#define START "(start 3 im 200 (-1000 1000))"
+#define LAST_TAG 16777215u
+/* Both the last moment and the most ticks. */
+#define LAST_MOMENT 4000000000000000000u
+/* The longest line that has a shape: 19 digits in every numeral. */
+#define LONGEST_SHAPE                                 \
+    "(start 9999999999999999999 im 9999999999999999999" \
+    " (-9999999999999999999 -9999999999999999999))"
+
+/* One more than an image and an output, for a length that is too great. */
+static uint8_t image[BOARDTIME_IMAGE_BYTES + 1];
+static uint8_t out[BOARDTIME_OUTPUT_BYTES + 1];
+static int failures;
+
+#define HELD(constant, returned) \
+    held(__LINE__, #constant, (constant), (returned))
+
+static void held(int at, const char *name, uint32_t constant, uint32_t returned)
+{
+    if (constant == returned)
+        return;
+    printf("constants.c:%d: %s is %lu, and the library has %lu\n", at, name,
+           (unsigned long)constant, (unsigned long)returned);
+    failures++;
+}
+
+static void holds(int at, const char *statement, int is_true)
+{
+    if (is_true)
+        return;
+    printf("constants.c:%d: not so: %s\n", at, statement);
+    failures++;
+}
+
+#define HOLDS(statement) holds(__LINE__, #statement, (statement))
+
+static uint32_t line_of(const char *bytes, size_t length, size_t out_length)
+{
+    return boardtime_line(image, BOARDTIME_IMAGE_BYTES, (const uint8_t *)bytes,
+                          length, out, out_length);
+}
+
+/* The number of a line that is answered, which the answer must spell too. */
+static uint8_t number_of(const char *line)
+{
+    uint32_t returned = line_of(line, strlen(line), BOARDTIME_OUTPUT_BYTES);
+    uint8_t number = BOARDTIME_NUMBER(returned);
+    char refused[16];
+    int length = snprintf(refused, sizeof refused, "(no %u)\n", (unsigned)number);
+
+    HOLDS(BOARDTIME_LENGTH(returned) <= BOARDTIME_OUTPUT_BYTES);
+    HOLDS(number == BOARDTIME_ACCEPTED
+          || (BOARDTIME_LENGTH(returned) == (size_t)length
+              && memcmp(out, refused, (size_t)length) == 0));
+    return number;
+}
+
+static uint8_t pass_of(uint64_t ticks)
+{
+    return boardtime_pass(image, BOARDTIME_IMAGE_BYTES, ticks);
+}
+
+/* The keeper that `(start ...)` leaves. */
+static void start(void)
+{
+    HELD(BOARDTIME_ACCEPTED, boardtime_fresh(image, BOARDTIME_IMAGE_BYTES));
+    HELD(BOARDTIME_ACCEPTED, number_of(START));
+}
+
+/* Puts a number at its place in the image, by the layout in boardtime.h. */
+static void put(size_t at, size_t width, uint64_t number)
+{
+    for (size_t i = 0; i < width; i++)
+        image[at + i] = (uint8_t)(number >> (8 * i));
+}
+
+static void refused_image(size_t length)
+{
+    HELD(BOARDTIME_WRONG_IMAGE_LENGTH, boardtime_fresh(image, length));
+    HELD(BOARDTIME_WRONG_IMAGE_LENGTH, boardtime_pass(image, length, 1));
+    HELD(BOARDTIME_WRONG_IMAGE_LENGTH,
+         boardtime_line(image, length, (const uint8_t *)"(read)", 6, out,
+                        BOARDTIME_OUTPUT_BYTES));
+}
+
+static void lengths_of_an_image(void)
+{
+    start();
+    HELD(BOARDTIME_ACCEPTED, pass_of(1));
+    for (size_t length = 0; length < BOARDTIME_IMAGE_BYTES; length++)
+        refused_image(length);
+    refused_image(BOARDTIME_IMAGE_BYTES + 1);
+}
+
+static void lengths_of_an_output(void)
+{
+    start();
+    for (size_t length = 0; length < BOARDTIME_OUTPUT_BYTES; length++)
+        HELD(BOARDTIME_SHORT_OUTPUT, line_of("(read)", 6, length));
+    HELD(BOARDTIME_ACCEPTED,
+         BOARDTIME_NUMBER(line_of("(read)", 6, BOARDTIME_OUTPUT_BYTES)));
+}
+
+/* Fifteen peers that wait, each with a tag of eight digits: no other answer has
+   as many bytes. That it has 211 shows that every answer fits the output. */
+static void longest_answer(void)
+{
+    uint32_t returned;
+
+    start();
+    put(6, 2, 0xFFFF & ~(1u << 3));
+    put(32, 4, LAST_TAG);
+    for (unsigned peer = 0; peer < 16; peer++)
+        if (peer != 3)
+            put(40 + 4 * peer, 4, LAST_TAG - peer);
+    returned = line_of("(waiting)", 9, BOARDTIME_OUTPUT_BYTES);
+    HELD(BOARDTIME_ACCEPTED, BOARDTIME_NUMBER(returned));
+    HOLDS(BOARDTIME_LENGTH(returned) == 211);
+    HOLDS(BOARDTIME_LENGTH(returned) <= BOARDTIME_OUTPUT_BYTES);
+}
+
+/*
+ * What a call can show of the longest line is little: the grammar has no line
+ * of more than 94 bytes, so that 95 bytes are refused with 1 for want of a
+ * shape, and 121 with the same number for their length. No line tells 120 from
+ * 94 or from 1000. Here: every line above the constant is refused with 1, and
+ * the constant is not below the longest shape (which is refused with 2, for its
+ * numerals). That it is 120, examples/run reads in the proved source.
+ */
+static void lengths_of_a_line(void)
+{
+    char line[2 * BOARDTIME_LINE_BYTES + sizeof LONGEST_SHAPE] = LONGEST_SHAPE;
+
+    start();
+    HOLDS(strlen(LONGEST_SHAPE) == 94);
+    HOLDS(strlen(LONGEST_SHAPE) <= BOARDTIME_LINE_BYTES);
+    HELD(BOARDTIME_OUTSIDE_RANGE, number_of(line));
+    memset(line, ' ', sizeof line);
+    memcpy(line, "(read)", 6);
+    for (size_t length = BOARDTIME_LINE_BYTES + 1; length <= sizeof line; length++)
+        HELD(BOARDTIME_NO_SHAPE,
+             BOARDTIME_NUMBER(line_of(line, length, BOARDTIME_OUTPUT_BYTES)));
+}
+
+static void numbers_of_lines(void)
+{
+    boardtime_fresh(image, BOARDTIME_IMAGE_BYTES);
+    HELD(BOARDTIME_WRONG_ORDER, number_of("(read)"));
+    start();
+    HELD(BOARDTIME_WRONG_ORDER, number_of(START));
+    HELD(BOARDTIME_NO_SHAPE, number_of("(pass 12x7)"));
+    HELD(BOARDTIME_OUTSIDE_RANGE, number_of("(pass 86400001)"));
+    HELD(BOARDTIME_OWN_BOARD, number_of("(request 3)"));
+    HELD(BOARDTIME_NOT_WAITING, number_of("(drop 4)"));
+    HELD(BOARDTIME_ACCEPTED, number_of("(request 4)"));
+    HELD(BOARDTIME_STILL_WAITING, number_of("(request 4)"));
+    HELD(BOARDTIME_NOT_WAITING, number_of("(reply 4 2 (0 0))"));
+    HELD(BOARDTIME_ACCEPTED, number_of("(pass 3600001)"));
+    HELD(BOARDTIME_TOO_LATE, number_of("(reply 4 1 (0 0))"));
+}
+
+/* States that take too many lines to reach. */
+static void numbers_of_states(void)
+{
+    start();
+    put(32, 4, LAST_TAG - 1);
+    HELD(BOARDTIME_ACCEPTED, number_of("(request 4)"));
+    HELD(BOARDTIME_TAGS_SPENT, number_of("(request 5)"));
+    start();
+    put(24, 8, LAST_MOMENT - 1);
+    HELD(BOARDTIME_ACCEPTED, number_of("(pass 1)"));
+    HELD(BOARDTIME_OVERFLOW, number_of("(pass 1)"));
+    HELD(BOARDTIME_OVERFLOW, pass_of(1));
+}
+
+static void numbers_of_passes(void)
+{
+    boardtime_fresh(image, BOARDTIME_IMAGE_BYTES);
+    HELD(BOARDTIME_WRONG_ORDER, pass_of(86400000));
+    start();
+    HELD(BOARDTIME_ACCEPTED, pass_of(86400000));
+    HELD(BOARDTIME_OUTSIDE_RANGE, pass_of(86400001));
+    /* These end in 32 bits that would be accepted. */
+    HELD(BOARDTIME_OUTSIDE_RANGE, pass_of(UINT64_C(1) << 32));
+    HELD(BOARDTIME_OUTSIDE_RANGE, pass_of((UINT64_C(1) << 32) + 5));
+    HELD(BOARDTIME_OUTSIDE_RANGE, pass_of(UINT64_MAX));
+    put(16, 8, LAST_MOMENT);
+    HELD(BOARDTIME_OVERFLOW, pass_of(1));
+}
+
+int main(void)
+{
+    lengths_of_an_image();
+    lengths_of_an_output();
+    longest_answer();
+    lengths_of_a_line();
+    numbers_of_lines();
+    numbers_of_states();
+    numbers_of_passes();
+    return failures != 0;
+}

@@ -1,0 +1,72 @@
+//! The constants of this crate are those of the header, which
+//! `examples/c/constants.c` holds against the library.
+
+use boardtime::{image, Refusal, IMAGE_BYTES, LINE_BYTES, OUTPUT_BYTES};
+
+const HEADER: &str = include_str!("../../include/boardtime.h");
+
+const REFUSALS: [(&str, Refusal); 10] = [
+    ("NO_SHAPE", Refusal::NoShape),
+    ("OUTSIDE_RANGE", Refusal::OutsideRange),
+    ("WRONG_ORDER", Refusal::WrongOrder),
+    ("OWN_BOARD", Refusal::OwnBoard),
+    ("OVERFLOW", Refusal::Overflow),
+    ("STILL_WAITING", Refusal::StillWaiting),
+    ("NOT_WAITING", Refusal::NotWaiting),
+    ("TOO_LATE", Refusal::TooLate),
+    ("TAGS_SPENT", Refusal::TagsSpent),
+    ("SHORT_OUTPUT", Refusal::ShortOutput),
+];
+
+/// The name, without its prefix, and the value of a line that defines a number.
+fn constant(line: &str) -> Option<(&str, usize)> {
+    let (name, value) = line.strip_prefix("#define BOARDTIME_")?.split_once(' ')?;
+    Some((name, value.parse().ok()?))
+}
+
+#[test]
+fn constants_are_those_of_the_header() {
+    let mut ours = vec![
+        ("IMAGE_BYTES", IMAGE_BYTES),
+        ("OUTPUT_BYTES", OUTPUT_BYTES),
+        ("LINE_BYTES", LINE_BYTES),
+        ("ACCEPTED", 0),
+    ];
+    ours.extend(REFUSALS.map(|(name, refusal)| (name, refusal.number().into())));
+    ours.push(("WRONG_IMAGE_LENGTH", image::WRONG_LENGTH.into()));
+    let header: Vec<_> = HEADER.lines().filter_map(constant).collect();
+    // The same names too: neither side has a number that the other lacks.
+    assert_eq!(ours, header);
+}
+
+/// Each declaration of the header beside the one that Rust calls by. A type
+/// that is too narrow in one of them need not show in any call: what is in the
+/// rest of a register is left open.
+const DECLARATIONS: [(&str, &str); 3] = [
+    (
+        "uint8_t boardtime_fresh(uint8_t *image, size_t image_length);",
+        "pub fn boardtime_fresh(image: *mut u8, image_length: usize) -> u8;",
+    ),
+    (
+        "uint32_t boardtime_line(uint8_t *image, size_t image_length, \
+         const uint8_t *line, size_t line_length, uint8_t *out, size_t out_length);",
+        "pub fn boardtime_line( image: *mut u8, image_length: usize, \
+         line: *const u8, line_length: usize, out: *mut u8, out_length: usize, ) -> u32;",
+    ),
+    (
+        "uint8_t boardtime_pass(uint8_t *image, size_t image_length, uint64_t ticks);",
+        "pub fn boardtime_pass(image: *mut u8, image_length: usize, ticks: u64) -> u8;",
+    ),
+];
+
+#[test]
+fn declarations_are_those_of_the_header() {
+    // Wherever the lines are broken.
+    let words = |text: &str| text.split_whitespace().collect::<Vec<_>>().join(" ");
+    let header = words(HEADER);
+    let foreign = words(include_str!("../src/image.rs"));
+    for (in_c, in_rust) in DECLARATIONS {
+        assert!(header.contains(in_c), "the header has no {in_c}");
+        assert!(foreign.contains(in_rust), "image.rs has no {in_rust}");
+    }
+}
