@@ -76,12 +76,12 @@ fn first_edges(random: &mut Random) -> (i64, i64) {
 }
 
 fn pass(random: &mut Random, keeper: &Keeper) -> String {
-    let last = i64::from(LAST_PASS);
+    let last = LAST_PASS as i64;
     let ticks = match random.below(40) {
         0..=3 => 0,
         4..=24 => random.between(1, 20),
         25..=33 => random.between(1, 5000),
-        34..=35 => random.between(1, i64::from(LAST_WAIT) + 1),
+        34..=35 => random.between(1, LAST_WAIT as i64 + 1),
         36 => random.between(1, last),
         37 => last + random.between(-1, 1),
         _ => ticks_to_the_end(random, keeper),

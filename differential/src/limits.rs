@@ -5,8 +5,8 @@
 pub const LAST_MOMENT: i64 = 4_000_000_000_000_000_000;
 pub const LAST_TICKS: u64 = 4_000_000_000_000_000_000;
 pub const LAST_CLAIM: u16 = 50_000;
-pub const LAST_PASS: u32 = 86_400_000;
-pub const LAST_WAIT: u32 = 3_600_000;
+pub const LAST_PASS: u64 = 86_400_000;
+pub const LAST_WAIT: u64 = 3_600_000;
 pub const LAST_TAG: u32 = 16_777_215;
 pub const PEERS: usize = 16;
 pub const LONGEST_LINE: usize = 120;

@@ -1,7 +1,9 @@
 //! Gives the proved library and the independent implementation the same calls
-//! and compares everything that they return and store.
+//! and compares everything that they return and store. Then gives the program
+//! inputs and compares everything that it writes.
 //!
-//! The optional argument is the seed; without it the run is always the same.
+//! BOARDTIME_PROGRAM names the program. The optional argument is the seed;
+//! without it the run is always the same.
 
 #![forbid(unsafe_code)]
 
@@ -10,6 +12,7 @@ mod fitting;
 mod kinds;
 mod lent;
 mod limits;
+mod program;
 mod random;
 mod tally;
 mod test;
@@ -17,6 +20,7 @@ mod test;
 use std::env;
 use std::process::ExitCode;
 
+use crate::program::Program;
 use crate::test::Test;
 
 const SEED: u64 = 20_260_101;
@@ -30,11 +34,19 @@ fn main() -> ExitCode {
             return ExitCode::from(2);
         }
     };
-    let mut test = Test::new(seed);
-    // A mismatch ends the program.
+    let program = match Program::from_environment() {
+        Ok(program) => program,
+        Err(message) => {
+            eprintln!("differential: {message}");
+            return ExitCode::from(2);
+        }
+    };
+    let mut test = Test::new(seed, program);
+    // A mismatch ends the test.
     kinds::run_all(&mut test);
     test.tally.print();
     let missing = test.tally.missing();
+    println!("{}, 0 mismatches", test.tally.program);
     println!(
         "differential: {} lines, 0 mismatches",
         test.tally.line_count()

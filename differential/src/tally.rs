@@ -1,6 +1,8 @@
 //! What a run has counted, and whether it reached enough of everything.
 
 use crate::answer::word;
+use crate::limits::LAST_PASS;
+use crate::program::ProgramTally;
 
 /// Everything that has to occur has to occur this often.
 const ENOUGH: u64 = 1000;
@@ -35,7 +37,10 @@ pub struct Tally {
     commands: [Numbers; COMMANDS.len()],
     answers: [u64; ANSWERS.len()],
     passes: Numbers,
+    /// Passes whose lower 32 bits alone would meet the limit.
+    cut_passes: u64,
     freshes: Numbers,
+    pub program: ProgramTally,
 }
 
 impl Tally {
@@ -46,7 +51,9 @@ impl Tally {
             commands: [[0; 256]; COMMANDS.len()],
             answers: [0; ANSWERS.len()],
             passes: [0; 256],
+            cut_passes: 0,
             freshes: [0; 256],
+            program: ProgramTally::default(),
         }
     }
 
@@ -86,15 +93,18 @@ impl Tally {
         }
     }
 
-    pub fn pass(&mut self, number: u8) {
+    pub fn pass(&mut self, ticks: u64, number: u8) {
         self.passes[usize::from(number)] += 1;
+        if ticks > LAST_PASS && u64::from(ticks as u32) <= LAST_PASS {
+            self.cut_passes += 1;
+        }
     }
 
     pub fn fresh(&mut self, number: u8) {
         self.freshes[usize::from(number)] += 1;
     }
 
-    /// How many lines were given to both sides.
+    /// How many lines were given to both sides as calls.
     pub fn line_count(&self) -> u64 {
         self.lines.iter().sum()
     }
@@ -107,6 +117,10 @@ impl Tally {
         println!("calls by the number returned:");
         print_numbers("boardtime_line", &self.lines);
         print_numbers("boardtime_pass", &self.passes);
+        println!(
+            "  ticks whose lower 32 bits would be accepted: {} times",
+            self.cut_passes
+        );
         print_numbers("boardtime_fresh", &self.freshes);
         println!("lines by the word that they begin with and the number returned:");
         for ((command, _), counts) in COMMANDS.iter().zip(&self.commands) {
@@ -116,6 +130,7 @@ impl Tally {
         for (answer, count) in ANSWERS.iter().zip(&self.answers) {
             println!("  {count:>8}  {answer}");
         }
+        self.program.print();
     }
 
     /// What occurred too seldom for the run to say anything of it.
@@ -139,11 +154,17 @@ impl Tally {
                 missing.push(format!("less than {ENOUGH} answers `{answer}`"));
             }
         }
+        if self.cut_passes < ENOUGH {
+            missing.push(format!(
+                "less than {ENOUGH} passes whose lower 32 bits would be accepted"
+            ));
+        }
+        missing.extend(self.program.missing(ENOUGH));
         missing
     }
 }
 
-fn print_numbers(name: &str, counts: &Numbers) {
+pub fn print_numbers(name: &str, counts: &[u64]) {
     print!("  {name}:");
     let mut between = " ";
     for (number, count) in counts.iter().enumerate() {

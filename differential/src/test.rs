@@ -7,6 +7,7 @@ use boardtime::image as library;
 
 use crate::answer;
 use crate::lent::{Lent, Pattern, PLACES, WHOLE};
+use crate::program::Program;
 use crate::random::Random;
 use crate::tally::Tally;
 
@@ -14,7 +15,7 @@ use crate::tally::Tally;
 #[derive(Clone, Copy)]
 enum Call<'a> {
     Line { line: &'a [u8], out_length: usize },
-    Pass { ticks: u32 },
+    Pass { ticks: u64 },
     Fresh,
 }
 
@@ -46,14 +47,16 @@ pub struct Test {
     seed: u64,
     /// For the pattern and the places of the buffers.
     random: Random,
+    pub program: Program,
     pub tally: Tally,
 }
 
 impl Test {
-    pub fn new(seed: u64) -> Test {
+    pub fn new(seed: u64, program: Program) -> Test {
         Test {
             seed,
             random: Random::new(seed),
+            program,
             tally: Tally::new(),
         }
     }
@@ -76,9 +79,9 @@ impl Test {
     }
 
     /// Gives both sides a pass by number.
-    pub fn pass(&mut self, image: &mut [u8], ticks: u32) -> u8 {
+    pub fn pass(&mut self, image: &mut [u8], ticks: u64) -> u8 {
         let (returned, _) = self.call(image, Call::Pass { ticks });
-        self.tally.pass(returned.number);
+        self.tally.pass(ticks, returned.number);
         returned.number
     }
 
@@ -125,10 +128,15 @@ impl Test {
         }
     }
 
-    fn report(&self, difference: &str, call: Call, outcome: &Outcome) {
+    /// Where in the run a case stands.
+    pub fn case_in_words(&self) -> String {
         let (kind, case) = self.tally.kind();
+        format!("seed {}, case {case} of kind '{kind}'", self.seed)
+    }
+
+    fn report(&self, difference: &str, call: Call, outcome: &Outcome) {
         println!("MISMATCH: {difference}");
-        println!("seed {}, case {case} of kind '{kind}'", self.seed);
+        println!("{}", self.case_in_words());
         println!("call: {call}");
         println!("image before: {}", hex(outcome.before.image.bytes()));
         for (name, side, returned) in [

@@ -41,14 +41,14 @@ pub fn answer_line(keeper: &mut Keeper, line: &[u8], out: &mut [u8]) -> Answered
 
 /// The effect of `(pass N)` without its line: returns 0 or the number of the
 /// refusal.
-pub fn pass(keeper: &mut Keeper, ticks: u32) -> u8 {
+pub fn pass(keeper: &mut Keeper, ticks: u64) -> u8 {
     match checked_pass(keeper, ticks) {
         Ok(()) => 0,
         Err(refusal) => refusal.number(),
     }
 }
 
-fn checked_pass(keeper: &mut Keeper, ticks: u32) -> Result<(), Refusal> {
+fn checked_pass(keeper: &mut Keeper, ticks: u64) -> Result<(), Refusal> {
     if ticks > MAX_PASS {
         return Err(Refusal::Range);
     }

@@ -31,11 +31,12 @@ impl Keeper {
         }
     }
 
-    /// `count` is at most 86400000, so an edge moves by less than 10^14.
-    pub(crate) fn pass(&mut self, count: u32) -> Result<(), Refusal> {
-        let lower = self.lower + i64::from(count) * self.shortest_tick();
-        let upper = self.upper + i64::from(count) * self.longest_tick();
-        let ticks = self.ticks + u64::from(count);
+    /// `count` is at most 86400000, so it fits in i64 too, and an edge moves by
+    /// less than 10^14.
+    pub(crate) fn pass(&mut self, count: u64) -> Result<(), Refusal> {
+        let lower = self.lower + count as i64 * self.shortest_tick();
+        let upper = self.upper + count as i64 * self.longest_tick();
+        let ticks = self.ticks + count;
         // The edges only rise and stay in order, so the upper one is the
         // first to leave the range.
         if upper > MAX_MOMENT || ticks > MAX_TICKS {

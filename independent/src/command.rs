@@ -12,7 +12,7 @@ use crate::refusal::Refusal;
 /// A line that has a command shape and numerals within their ranges.
 pub enum Command {
     Start(Start),
-    Pass { ticks: u32 },
+    Pass { ticks: u64 },
     Request { peer: u8 },
     Reply(Reply),
     Drop { peer: u8 },
@@ -67,7 +67,7 @@ impl Command {
 fn read_pass(mut reader: Reader) -> Result<Command, Refusal> {
     let ticks = reader.count()?;
     reader.finish(b")")?;
-    let ticks = at_most(ticks, u64::from(MAX_PASS))? as u32;
+    let ticks = at_most(ticks, MAX_PASS)?;
     Ok(Command::Pass { ticks })
 }
 

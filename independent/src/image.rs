@@ -102,7 +102,7 @@ pub fn answer_image(image: &mut [u8], line: &[u8], out: &mut [u8]) -> Answered {
 }
 
 /// `pass` on an image. The image changes only if the pass is accepted.
-pub fn pass_image(image: &mut [u8], ticks: u32) -> u8 {
+pub fn pass_image(image: &mut [u8], ticks: u64) -> u8 {
     let Ok(image) = <&mut Image>::try_from(image) else {
         return WRONG_LENGTH;
     };

@@ -13,7 +13,7 @@ pub const MAX_CLAIM: u16 = 50_000;
 /// Largest number of ticks since the start.
 pub const MAX_TICKS: u64 = 4_000_000_000_000_000_000;
 /// Largest number of ticks in one pass.
-pub const MAX_PASS: u32 = 86_400_000;
+pub const MAX_PASS: u64 = 86_400_000;
 /// Largest number of ticks between a request and its reply.
 pub const MAX_WAIT: u64 = 3_600_000;
 

@@ -41,7 +41,7 @@ const CHANGES: &[Change] = &[
     |keeper| keeper.ticks = LAST_TICKS,
     |keeper| keeper.ticks = LAST_TICKS + 1,
     |keeper| keeper.ticks = LAST_TICKS - 1,
-    |keeper| keeper.ticks = LAST_TICKS - u64::from(LAST_PASS),
+    |keeper| keeper.ticks = LAST_TICKS - LAST_PASS,
     |keeper| keeper.ticks = u64::MAX,
     |keeper| keeper.ticks = keeper.sent_at[4],
     |keeper| keeper.ticks = keeper.sent_at[4] - 1,
@@ -105,7 +105,7 @@ fn give(test: &mut Test, random: &mut Random, image: Image) {
         let out_length = fitting::out_length(random);
         test.line(&mut image, &line, out_length);
     }
-    for ticks in [0, 1, 2, LAST_PASS, LAST_PASS + 1, u32::MAX] {
+    for ticks in [0, 1, 2, LAST_PASS, LAST_PASS + 1, 1 << 32, u64::MAX] {
         let mut image = image;
         test.pass(&mut image, ticks);
     }

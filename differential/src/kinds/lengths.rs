@@ -91,7 +91,7 @@ fn images(test: &mut Test) {
             test.line(&mut image, line.as_bytes(), out_length);
             test.pass(
                 &mut image,
-                random.pick(&[0, 1, 86_400_000, 86_400_001, u32::MAX]),
+                random.pick(&[0, 1, 86_400_000, 86_400_001, 1 << 32, u64::MAX]),
             );
             test.fresh(&mut image);
         }

@@ -214,7 +214,7 @@ fn give(test: &mut Test, mut state: Image, line: &str) {
 /// nanosecond past it.
 fn pass_to_the_end(test: &mut Test, random: &mut Random) {
     let claim = random.between(0, i64::from(LAST_CLAIM));
-    let ticks = random.between(0, i64::from(LAST_PASS));
+    let ticks = random.between(0, LAST_PASS as i64);
     let past = random.between(-1, 1);
     let upper = LAST_MOMENT - ticks * (1_000_000 + claim) + past;
     let start = format!("(start 1 im {claim} ({} {upper}))", upper - 5);

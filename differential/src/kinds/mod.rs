@@ -8,6 +8,7 @@ mod images;
 mod lengths;
 mod limits;
 mod passes;
+mod program;
 mod sessions;
 mod states;
 mod waits;
@@ -25,4 +26,5 @@ pub fn run_all(test: &mut Test) {
     handmade::run(test);
     images::run(test);
     passes::run(test);
+    program::run(test);
 }

@@ -10,6 +10,8 @@ use crate::random::Random;
 use crate::test::Test;
 
 const PASSES: u64 = 150_000;
+/// The first number that does not fit in 32 bits.
+const CUT: u64 = 1 << 32;
 const FRESHES: u64 = 5000;
 
 pub fn run(test: &mut Test) {
@@ -33,30 +35,38 @@ fn passes(test: &mut Test) {
     }
 }
 
-fn ticks(random: &mut Random) -> u32 {
-    match random.below(8) {
+/// All 64 bits are the caller's. The kinds of numbers about 2^32 tell a side
+/// that looks at the lower half alone: it would accept most of them.
+fn ticks(random: &mut Random) -> u64 {
+    match random.below(14) {
         0 => 0,
         1 => 1,
         2 => LAST_PASS - 1,
         3 => LAST_PASS,
         4 => LAST_PASS + 1,
-        5 => random.next() as u32,
-        6 => u32::MAX,
-        _ => random.below(u64::from(LAST_PASS)) as u32,
+        5 => random.next() >> 32,
+        6 => CUT - 1 + random.below(3),
+        7 => CUT + random.below(LAST_PASS + 2),
+        8 => (1 + random.below(CUT - 1)) * CUT + random.below(LAST_PASS + 2),
+        9 => (1 << (32 + random.below(32))) + random.below(2),
+        10 => u64::MAX - random.below(2),
+        11 => random.next(),
+        _ => random.below(LAST_PASS),
     }
 }
 
-/// A keeper that a pass of this many ticks takes to the end of the range, of
-/// the ticks, or of both, or one more or less.
-fn near_an_end(random: &mut Random, ticks: u32) -> Keeper {
+/// A keeper that a pass of this many ticks, no more than one pass may have,
+/// takes to the end of the range, of the ticks, or of both, or one more or
+/// less.
+fn near_an_end(random: &mut Random, ticks: u64) -> Keeper {
     let mut keeper = waiting_keeper();
     keeper.claim = random.pick(&[0, 1, 200, LAST_CLAIM]);
     if !random.one_in(3) {
-        let moved = i64::from(ticks) * (1_000_000 + i64::from(keeper.claim));
+        let moved = ticks as i64 * (1_000_000 + i64::from(keeper.claim));
         keeper.upper = (LAST_MOMENT - moved + random.between(-1, 1)).min(LAST_MOMENT);
     }
     if !random.one_in(3) {
-        let rest = LAST_TICKS - u64::from(ticks) + random.below(3) - 1;
+        let rest = LAST_TICKS - ticks + random.below(3) - 1;
         keeper.ticks = rest.min(LAST_TICKS);
     }
     keeper

@@ -33,11 +33,11 @@ pub fn run(test: &mut Test) {
 }
 
 /// Passes that together take the limit of a wait, or one tick more or less.
-fn parts(random: &mut Random) -> Vec<u32> {
-    let mut rest = LAST_WAIT - 1 + random.below(3) as u32;
+fn parts(random: &mut Random) -> Vec<u64> {
+    let mut rest = LAST_WAIT - 1 + random.below(3);
     let mut parts = Vec::new();
     for _ in 0..random.below(4) {
-        let part = random.below(u64::from(rest) + 1) as u32;
+        let part = random.below(rest + 1);
         parts.push(part);
         rest -= part;
     }

@@ -112,7 +112,7 @@ fn other_lengths() {
             }
         );
         assert_eq!(pass_image(&mut image, 1), 255);
-        assert_eq!(pass_image(&mut image, u32::MAX), 255);
+        assert_eq!(pass_image(&mut image, u64::MAX), 255);
         assert_eq!(fresh_image(&mut image), 255);
         // The length of the image comes before the length of the output.
         let answered = answer_image(&mut image, b"(read)", &mut []);
@@ -222,7 +222,7 @@ fn short_output_on_an_image() {
 fn passes_on_an_image() {
     let mut keeper = after(&["(start 3 im 200 (-1000 3999999999000000000))"]);
     let mut image = image_of(&keeper);
-    for ticks in [0, 1, 10, 86_400_001, u32::MAX, 1000, 500, 500] {
+    for ticks in [0, 1, 10, 86_400_001, u64::MAX, 1 << 32, 1000, 500, 500] {
         let number = pass(&mut keeper, ticks);
         assert_eq!(pass_image(&mut image, ticks), number);
         assert_eq!(image, image_of(&keeper));
