@@ -6,9 +6,8 @@ use Prim.Native.Nat.{ℕ, _+_, _≤_}
 use native.Mathlib.Omega.{arith}
 use lib.ListN.{length}
 use Rattle.lines.specs.Lines.{breaks, joined}
-use Rattle.lines.proofs.LineLaws.{breaks-append, breaks-joined}
+use Rattle.lines.proofs.LineLaws.{by-test, breaks-append, breaks-joined}
 use Rattle.stream.specs.Stream.{Turn}
-use Rattle.stream.proofs.Laws.{by-test}
 use Rattle.stream.proofs.Splitting.{take-unbroken}
 
 module _ {S : Type 0} {next : S → List ℕ → S} {Answer : S → List ℕ → List ℕ → Type 0} {most : ℕ} where

@@ -1,5 +1,4 @@
 -- Laws about the definitions of specs/, and the theorem over every way of cutting the input into reads.
-pub mod Laws
 pub mod Alike
 pub mod Splitting
 pub mod Trimming

@@ -6,9 +6,8 @@ use Prim.Native.Nat.{ℕ, _+_}
 use native.Mathlib.Omega.{arith}
 use lib.ListN.{length, length-append}
 use Rattle.lines.specs.Lines.{breaks, linesOf, joined}
-use Rattle.lines.proofs.LineLaws.{breaks-append}
+use Rattle.lines.proofs.LineLaws.{by-test, breaks-append}
 use Rattle.stream.specs.Stream.{through, Answers, Turn, Step, allGot, allWritten, Turns}
-use Rattle.stream.proofs.Laws.{by-test}
 use Rattle.stream.proofs.Alike.{Alike, alike-refl, alike-trans, alike-behind}
 use Rattle.stream.proofs.Splitting.{lines-joined}
 use Rattle.stream.proofs.Trimming.{trimmed-alike}
