@@ -48,6 +48,10 @@ fn main() -> ExitCode {
     let missing = test.tally.missing();
     println!("{}, 0 mismatches", test.tally.program);
     println!(
+        "program: {} runs with a failed read or write, 0 mismatches",
+        test.tally.program.failed()
+    );
+    println!(
         "differential: {} lines, 0 mismatches",
         test.tally.line_count()
     );

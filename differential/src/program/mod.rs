@@ -1,14 +1,19 @@
 //! The program `boardtime`, run as a process of its own.
 
 mod delivery;
+mod descriptors;
 mod expected;
+mod failing;
 mod run;
 mod tally;
 
+use std::fmt::Display;
 use std::io;
 use std::process;
 
 pub use delivery::{Delivery, LENGTHS};
+pub use descriptors::{Sink, Socket, Source};
+pub use failing::End;
 pub use run::Program;
 pub use tally::ProgramTally;
 
@@ -36,7 +41,7 @@ impl Test {
         }
     }
 
-    fn report_program(&self, difference: &str, input: &[u8], delivery: &Delivery) {
+    fn report_program(&self, difference: &str, input: &[u8], delivery: &dyn Display) {
         println!("MISMATCH of the program: {difference}");
         println!("{}", self.case_in_words());
         println!("standard input: {} bytes, {delivery}", input.len());

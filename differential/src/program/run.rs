@@ -9,11 +9,15 @@ use std::thread;
 use std::time::{Duration, Instant};
 
 use super::delivery::{Delivery, Piece};
+use super::descriptors::{Sink, Source};
 
 const VARIABLE: &str = "BOARDTIME_PROGRAM";
 
 /// A run takes less than a second; one that takes this long will not end.
 const LONGEST_RUN: Duration = Duration::from_secs(60);
+
+/// A run with a failure takes some milliseconds.
+const LONGEST_FAILING_RUN: Duration = Duration::from_secs(10);
 
 /// Long enough for the program to begin its first read, mostly. What is
 /// written before that arrives as one piece.
@@ -36,6 +40,8 @@ pub struct Ran {
     pub status: Option<ExitStatus>,
     /// Whether the program took all that was written to the pipe.
     pub written: io::Result<()>,
+    /// Whether standard output is a socket that takes nothing more.
+    pub full: bool,
 }
 
 impl Program {
@@ -69,22 +75,37 @@ impl Program {
     pub fn run(&self, input: &[u8], delivery: &Delivery) -> io::Result<Ran> {
         let mut child = self.spawn(input, delivery)?;
         let stdin = child.stdin.take();
-        let stdout = child.stdout.take().expect("a pipe");
-        let stderr = child.stderr.take().expect("a pipe");
-        // Each pipe has a thread of its own: if one were served after another,
-        // the program and the test could each wait for the other.
-        thread::scope(|scope| {
-            let written = scope.spawn(|| write(stdin, input, delivery));
-            let stdout = scope.spawn(|| all_of(stdout));
-            let stderr = scope.spawn(|| all_of(stderr));
-            let status = wait(&mut child)?;
-            Ok(Ran {
-                stdout: stdout.join().expect("no panic")?,
-                stderr: stderr.join().expect("no panic")?,
-                status,
-                written: written.join().expect("no panic"),
-            })
-        })
+        watch(child, LONGEST_RUN, || write(stdin, input, delivery))
+    }
+
+    /// Runs the program with an input or an output that may fail.
+    pub fn run_failing(&self, input: &[u8], source: Source, sink: Sink) -> io::Result<Ran> {
+        let (stdin, kept) = source.open(self, input)?;
+        let (stdout, socket) = sink.open()?;
+        let child = self
+            .command(source, sink)
+            .stdin(stdin)
+            .stdout(stdout)
+            .stderr(Stdio::piped())
+            .spawn()?;
+        let mut ran = watch(child, LONGEST_FAILING_RUN, || Ok(()))?;
+        drop(kept);
+        if let Some(socket) = socket {
+            (ran.full, ran.stdout) = socket.read()?;
+        }
+        Ok(ran)
+    }
+
+    /// The program, begun by a shell if that has to prepare something.
+    fn command(&self, source: Source, sink: Sink) -> Command {
+        let (before, stdout) = sink.in_shell();
+        let script = format!("{before}exec \"$0\"{}{stdout}", source.in_shell());
+        if script == "exec \"$0\"" {
+            return Command::new(&self.path);
+        }
+        let mut shell = Command::new("/bin/sh");
+        shell.arg("-c").arg(script).arg(&self.path);
+        shell
     }
 
     fn spawn(&self, input: &[u8], delivery: &Delivery) -> io::Result<Child> {
@@ -107,6 +128,30 @@ impl Drop for Program {
     }
 }
 
+/// Writes to the program and reads from it until it ends.
+fn watch<F>(mut child: Child, longest: Duration, write: F) -> io::Result<Ran>
+where
+    F: FnOnce() -> io::Result<()> + Send,
+{
+    let stdout = child.stdout.take();
+    let stderr = child.stderr.take();
+    // Each pipe has a thread of its own: if one were served after another, the
+    // program and the test could each wait for the other.
+    thread::scope(|scope| {
+        let written = scope.spawn(write);
+        let stdout = scope.spawn(|| all_of(stdout));
+        let stderr = scope.spawn(|| all_of(stderr));
+        let status = wait(&mut child, longest)?;
+        Ok(Ran {
+            stdout: stdout.join().expect("no panic")?,
+            stderr: stderr.join().expect("no panic")?,
+            status,
+            written: written.join().expect("no panic"),
+            full: false,
+        })
+    })
+}
+
 /// Writes the input to the pipe piece by piece and closes it.
 fn write(pipe: Option<ChildStdin>, input: &[u8], delivery: &Delivery) -> io::Result<()> {
     let (Some(mut pipe), Delivery::Pipe(pieces)) = (pipe, delivery) else {
@@ -127,16 +172,19 @@ fn write(pipe: Option<ChildStdin>, input: &[u8], delivery: &Delivery) -> io::Res
     Ok(())
 }
 
-fn all_of(mut pipe: impl Read) -> io::Result<Vec<u8>> {
+/// All that comes out of a pipe, and nothing if there is none.
+fn all_of(pipe: Option<impl Read>) -> io::Result<Vec<u8>> {
     let mut bytes = Vec::new();
-    pipe.read_to_end(&mut bytes)?;
+    if let Some(mut pipe) = pipe {
+        pipe.read_to_end(&mut bytes)?;
+    }
     Ok(bytes)
 }
 
 /// Waits for the end of the program, and stops it if it does not come.
-fn wait(child: &mut Child) -> io::Result<Option<ExitStatus>> {
+fn wait(child: &mut Child, longest: Duration) -> io::Result<Option<ExitStatus>> {
     let begin = Instant::now();
-    while begin.elapsed() < LONGEST_RUN {
+    while begin.elapsed() < longest {
         if let Some(status) = child.try_wait()? {
             return Ok(Some(status));
         }

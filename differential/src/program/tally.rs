@@ -2,7 +2,7 @@
 
 use std::fmt;
 
-use super::Delivery;
+use super::{Delivery, End};
 use crate::tally::print_numbers;
 
 /// The numbers that a line can be given in a run. The program lends enough
@@ -17,6 +17,11 @@ pub struct ProgramTally {
     bytes_read: usize,
     bytes_written: usize,
     lines: [u64; NUMBERS],
+    failed_reads: u64,
+    failed_writes: u64,
+    signals: u64,
+    /// Runs in which a write could have failed, and none did.
+    not_failed: u64,
 }
 
 impl ProgramTally {
@@ -35,6 +40,20 @@ impl ProgramTally {
         }
     }
 
+    pub fn failing_run(&mut self, end: End) {
+        *match end {
+            End::Quiet => &mut self.not_failed,
+            End::ReadingFailed => &mut self.failed_reads,
+            End::WritingFailed => &mut self.failed_writes,
+            End::Signal => &mut self.signals,
+        } += 1;
+    }
+
+    /// How many runs had a failed read or write.
+    pub fn failed(&self) -> u64 {
+        self.failed_reads + self.failed_writes
+    }
+
     pub fn print(&self) {
         println!("the program:");
         println!(
@@ -46,6 +65,11 @@ impl ProgramTally {
             self.bytes_read, self.bytes_written
         );
         print_numbers("lines by number", &self.lines);
+        println!(
+            "  {} runs with a failed read, {} with a failed write, {} ended by a signal, \
+             {} that could have one and had none",
+            self.failed_reads, self.failed_writes, self.signals, self.not_failed
+        );
     }
 
     /// The numbers that less than `enough` lines were given.

@@ -1,6 +1,7 @@
 //! Inputs for the program.
 
 mod ends;
+mod failures;
 mod input;
 mod lines;
 mod outputs;
@@ -17,6 +18,7 @@ pub fn run(test: &mut Test) {
     ends::run(test);
     reads::run(test);
     outputs::run(test);
+    failures::run(test);
 }
 
 /// Runs the program on the input as a file, and again through a pipe.
