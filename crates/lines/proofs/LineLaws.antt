@@ -8,8 +8,8 @@ use native.Mathlib.Numerals.{add-one}
 use borrow.Author.Tests.{eq-eqb, ne-eqb, eqb-true, eqb-false}
 use lib.Bits.{bitOr, or-add-and, and-le-l, and-le-r}
 use lib.Dec.{eqb}
-use lib.ListN.{length, take, drop, getD, drop-of-length-le}
-use lib.Seq.{take-suc, take-all, drop-cons}
+use lib.ListN.{length, take, drop, getD, length-drop, drop-of-length-le}
+use lib.Seq.{take-suc, take-all, drop-cons, drop-drop}
 use Rattle.lines.specs.Lines.{lf, breaks, lineLength, joined, Unbroken}
 
 pub by-test : {P : Type 0} (t : Bool) → (t ≡ true → P) → (t ≡ false → P) → P
@@ -61,6 +61,13 @@ pub line-unbroken : (s : List ℕ) → breaks (take (lineLength s) s) ≡ 0
 unfolding lineLength breaks
 line-unbroken [] = refl
 line-unbroken (b ∷ s) = by-test (eqb b lf) (λ t. rw t) (λ t. rw (t, t) (line-unbroken s))
+
+-- past so many bytes from a place on
+pub line-along : (n : ℕ) (s : List ℕ) (i : ℕ) → i + n ≤ length s → breaks (take n (drop i s)) ≡ 0
+    → i + lineLength (drop i s) ≡ i + n + lineLength (drop (i + n) s)
+line-along n s i h none =
+    let few : n ≤ length (drop i s) = simp length-drop (omega arith) in
+    rw (line-past n (drop i s) few none, drop-drop n i s) (omega arith)
 
 -- at a place: an LF, another byte, and the end
 pub line-here : (s : List ℕ) (i : ℕ) → i < length s → getD s i 0 ≡ lf → lineLength (drop i s) ≡ 0

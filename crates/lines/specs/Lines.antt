@@ -1,7 +1,7 @@
 -- Lines in a list of bytes: document 01, 'A whole run'.
 use mathlib.Core.Path.{_≡_}
 use mathlib.Core.List.{List, [], _∷_, _++_}
-use Prim.Native.Nat.{ℕ, suc}
+use Prim.Native.Nat.{ℕ, suc, _+_, _≤_}
 use lib.Dec.{eqb}
 use lib.ListN.{length, take, drop}
 use Rattle.text.specs.Words.{choose}
@@ -19,6 +19,11 @@ breaks (b ∷ bs) = choose (eqb b lf) (λ _. suc (breaks bs)) (λ _. breaks bs)
 unfoldable pub lineLength : List ℕ → ℕ
 lineLength [] = 0
 lineLength (b ∷ bs) = choose (eqb b lf) (λ _. 0) (λ _. suc (lineLength bs))
+
+-- The first LF from one place on is the first from another on, which lies within the bytes.
+pub record SameEnd (bytes : List ℕ) (from to : ℕ) : Type 0 where
+  pub within : to ≤ length bytes
+  pub same : from + lineLength (drop from bytes) ≡ to + lineLength (drop to bytes)
 
 -- A byte before the first of some lines is a byte of that line.
 abbrev pub begun : ℕ → List (List ℕ) → List (List ℕ)

@@ -5,12 +5,14 @@ ghost use mathlib.Core.List.{[], _∷_, _++_};
 ghost use Prim.Native.Nat.{_+_, _-_, _≤_, min};
 ghost use lib.Dec.{eqb};
 ghost use lib.ListN.{length, take, drop};
-ghost use Rattle.lines.specs.Lines.{breaks, lineLength, heldOf, Held};
+ghost use Rattle.lines.specs.Lines.{breaks, lineLength, SameEnd, heldOf, Held};
 
 pub const LF: u8 = 10;
 
-// How many bytes are looked at together.
+// How many bytes are looked at together, and then once more in the block that holds an LF.
 const BLOCK: usize = 16;
+
+const HALF: usize = 8;
 
 // A byte that is no LF gives 0.
 fn mark(byte: u8) -> u8
@@ -19,14 +21,15 @@ fn mark(byte: u8) -> u8
     if byte == LF { 1 } else { 0 }
 }
 
-// Whether an LF is among the bytes of the block that begins at the place. No byte ends the search, so that the compiler compares all at once.
-fn any_in(bytes: &[u8], at: usize) -> bool
-    requires { ⌜ at + 16 ≤ length (now bytes) ⌝ }
-    ensures { λ r. ⌜ r ≡ not (eqb (breaks (take 16 (drop at (now (bytes .entry))))) 0) ⌝ }
+// Whether an LF is among so many bytes from the place on. No byte ends the search, so that the compiler compares all at once where the count is
+// known to it.
+fn any_in(bytes: &[u8], at: usize, count: usize) -> bool
+    requires { ⌜ at + count ≤ length (now bytes) ⌝ }
+    ensures { λ r. ⌜ r ≡ not (eqb (breaks (take count (drop at (now (bytes .entry))))) 0) ⌝ }
 {
     let mut any: u8 = 0;
     let mut i: usize = 0;
-    while i < BLOCK {
+    while i < count {
         any = any | mark(bytes[at + i]);
         i += 1;
     }
@@ -36,16 +39,30 @@ fn any_in(bytes: &[u8], at: usize) -> bool
 // The first place from `at` on at which a block begins that holds an LF, or that is not whole.
 fn block_end(bytes: &[u8], at: usize) -> usize
     requires { ⌜ at ≤ length (now bytes) ⌝ }
-    ensures { λ r. ⌜ (r ≤ length (now (bytes .entry))) × (at + lineLength (drop at (now (bytes .entry))) ≡ r + lineLength (drop r (now (bytes .entry)))) ⌝ }
+    ensures { λ r. ⌜ SameEnd (now (bytes .entry)) at r ⌝ }
 {
     let mut i = at;
     while BLOCK <= bytes.len() - i {
-        if any_in(bytes, i) {
+        if any_in(bytes, i, BLOCK) {
             return i;
         }
         i += BLOCK;
     }
     i
+}
+
+// Past half a block that holds no LF.
+fn half_end(bytes: &[u8], at: usize) -> usize
+    requires { ⌜ at ≤ length (now bytes) ⌝ }
+    ensures { λ r. ⌜ SameEnd (now (bytes .entry)) at r ⌝ }
+{
+    if bytes.len() - at < HALF {
+        return at;
+    }
+    if any_in(bytes, at, HALF) {
+        return at;
+    }
+    at + HALF
 }
 
 // The place of the first LF from a place on; the end of the bytes if there is none.
@@ -55,7 +72,8 @@ pub fn line_end(bytes: &[u8], at: usize) -> usize
     if bytes.len() < at {
         return at;
     }
-    let mut i = block_end(bytes, at);
+    let block = block_end(bytes, at);
+    let mut i = half_end(bytes, block);
     while i < bytes.len() {
         if bytes[i] == LF {
             return i;

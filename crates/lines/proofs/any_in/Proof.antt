@@ -13,10 +13,10 @@ use Rattle.lines.proofs.any_in.Statement.{statement}
 use Rattle.lines.proofs.any_in.Tie as tie
 
 abbrev Inv-loop : tie.InvT-loop
-Inv-loop bytes at any₀ i₀ any i = (i ≤ 16) × (eqb any 0 ≡ eqb (breaks (take i (drop at bytes))) 0)
+Inv-loop bytes at count any₀ i₀ any i = (i ≤ count) × (eqb any 0 ≡ eqb (breaks (take i (drop at bytes))) 0)
 
 abbrev μ-loop : tie.MeasureT-loop
-μ-loop bytes at any₀ i₀ any i = 16 - i
+μ-loop bytes at count any₀ i₀ any i = count - i
 
 loop-holds : tie.Need-loop-holds Inv-loop μ-loop
 unfolding breaks
@@ -49,7 +49,7 @@ loop-again c =
 returns : tie.Need-returns Inv-loop μ-loop
 returns c =
     let k = c .before .loop in
-    let all : k .i ≡ 16 = omega arith in
+    let all : k .i ≡ c .before .before .before .args .count = omega arith in
     rw (k .inv .1, all)
 
 pub any-in-spec : {M : Type 1} → statement M

@@ -1,23 +1,22 @@
 -- `lines::block_end` meets its contract. The loop's invariant: the first LF from the place reached is the first from where the search began.
 use mathlib.Core.Path.{_≡_, refl, sym, _∙_}
-use Prim.Native.Nat.{_+_, _-_, _≤_}
+use Prim.Native.Nat.{_-_, _≤_}
 use native.Mathlib.Omega.{arith}
 use borrow.Author.Tests.{not-false, eqb-true}
-use lib.ListN.{length, take, drop, length-drop}
-use lib.Seq.{drop-drop}
-use Rattle.lines.specs.Lines.{breaks, lineLength}
-use Rattle.lines.proofs.LineLaws.{line-past}
+use lib.ListN.{length, take, drop}
+use Rattle.lines.specs.Lines.{breaks, SameEnd}
+use Rattle.lines.proofs.LineLaws.{line-along}
 use Rattle.lines.proofs.block_end.Statement.{statement}
 use Rattle.lines.proofs.block_end.Tie as tie
 
 abbrev Inv-loop : tie.InvT-loop
-Inv-loop bytes at i₀ i = (i ≤ length bytes) × (at + lineLength (drop at bytes) ≡ i + lineLength (drop i bytes))
+Inv-loop bytes at i₀ i = SameEnd bytes at i
 
 abbrev μ-loop : tie.MeasureT-loop
 μ-loop bytes at i₀ i = length bytes - i
 
 loop-holds : tie.Need-loop-holds Inv-loop μ-loop
-loop-holds c = (omega arith, refl)
+loop-holds c = record { within = omega arith; same = refl }
 
 sub-loop : tie.Need-sub-loop Inv-loop μ-loop
 sub-loop c = omega arith
@@ -39,10 +38,8 @@ loop-again c =
     let k = c .before .before .before .loop in
     let s = c .before .before .before .before .before .args .bytes .now in
     let none : breaks (take 16 (drop (k .i) s)) ≡ 0 = eqb-true _ _ (not-false _ (sym (c .before .any-in .ensures) ∙ c .if1 .left)) in
-    let past : lineLength (drop (k .i) s) ≡ 16 + lineLength (drop 16 (drop (k .i) s)) =
-    line-past 16 (drop (k .i) s) (simp length-drop (omega arith)) none
-    in
-    (omega arith, rw (k .inv .1, past, drop-drop 16 (k .i) s) (omega arith))
+    let along = line-along 16 s (k .i) (omega arith) none in
+    record { within = omega arith; same = k .inv .same ∙ along }
 
 returns-2 : tie.Need-returns-2 Inv-loop μ-loop
 returns-2 c = c .before .loop .inv
