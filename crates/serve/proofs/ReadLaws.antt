@@ -2,17 +2,26 @@
 use mathlib.Core.Path.{_≡_, refl, sym, ap, _∙_}
 use mathlib.Core.Bool.{Bool, true, false}
 use mathlib.Core.List.{List, [], _∷_, _++_}
-use Prim.Native.Nat.{ℕ, zero, suc, _+_, _≤_, _<_}
+use Prim.Native.Nat.{ℕ, zero, suc, _+_, _-_, _≤_, _<_}
 use native.Mathlib.Omega.{arith}
 use native.Mathlib.Numerals.{add-one}
-use lib.ListN.{length, take, drop, set, length-set}
+use borrow.Author.Tests.{ltb-true, lt-leb}
+use lib.Dec.{leb}
+use lib.IntN.{ℤ, pos, negsuc}
+use lib.ListN.{length, take, drop, set, length-set, length-drop}
 use lib.Seq.{take-at, take-set-le, take-suc-set, length-take-le}
+use lib.Signed.{ltZ, leZ}
+use mir.Syntax.{w64}
+use mir.Val.{toZ, ofZ, SFits}
+use mir.Facts.{toZ-ofZ}
+use Rattle.io.specs.Counts.{clamped}
 use Rattle.lines.specs.Lines.{lf}
 use Rattle.reader.specs.Reading.{longestLine}
 use Rattle.history.proofs.Invariant.{clash}
 use Rattle.stream.specs.Stream.{ending}
 use Rattle.serve.specs.Turning.{InOrder}
-use Rattle.serve.specs.Reading.{LineEnded, Read}
+use Rattle.serve.specs.Reading.{LineEnded, Brought, Read}
+use Rattle.serve.specs.declared.read.Got.{Got}
 use Rattle.serve.specs.declared.turn.Stream.{Stream}
 
 -- what is read lies behind
@@ -42,6 +51,57 @@ ending-most : (s : List ℕ) → length (ending s) ≤ 1
 ending-most [] = omega arith
 ending-most (b ∷ s) = omega arith
 
+-- ---- what a read brought, by what it returned
+
+pub zero-is : (z : ℤ) → SFits w64 z → ofZ w64 z ≡ 0 → z ≡ pos 0
+zero-is z fits e = sym (toZ-ofZ fits) ∙ ap (λ (n : ℕ). toZ w64 n) e
+
+pub zero-bits : {z : ℤ} → z ≡ pos 0 → ofZ w64 z ≡ 0
+zero-bits e = rw e
+
+-- the room behind what is held
+pub part-size : (buffer : List ℕ) (held : ℕ) → length (take (length buffer - held) (drop held buffer)) ≡ length buffer - held
+part-size buffer held = length-take-le (length buffer - held) (drop held buffer) (simp length-drop (omega arith))
+
+above : (k : ℕ) → leb (suc k) 0 ≡ false
+above k = lt-leb (suc k) 0 (omega arith)
+
+module _ {buffer : List ℕ} {held : ℕ} where
+  pub brought-failure : (moved : ℤ) → ltZ moved (pos 0) ≡ true → Brought moved buffer held (record { count = 0; last = true; failed = true }) buffer
+  brought-failure (pos n) t = absurd (let none : n < 0 = ltb-true n 0 t in omega arith)
+  brought-failure (negsuc n) t =
+      record {
+        failed-is = refl;
+        last-is = refl;
+        failure = λ _. (refl, refl);
+        end = λ e. absurd (let z : _≡_ {A = ℕ} 0 1 = cc in omega arith);
+        bytes = λ e. absurd (clash true refl e);
+      }
+
+  pub brought-end : (moved : ℤ) {buffer′ : List ℕ} {n : ℕ} → moved ≡ pos 0 → LineEnded buffer held buffer′ n
+      → Brought moved buffer held (record { count = n; last = true; failed = false }) buffer′
+  brought-end moved e ended =
+      record {
+        failed-is = rw e;
+        last-is = rw e;
+        failure = λ t. absurd (clash (ltZ moved (pos 0)) t (rw e));
+        end = λ _. ended;
+        bytes = λ t. absurd (clash (leZ moved (pos 0)) (rw e) t);
+      }
+
+  pub brought-bytes : (moved : ℤ) {n : ℕ} → ltZ moved (pos 0) ≡ false → (moved ≡ pos 0 → ⊥) → n ≡ clamped moved (length buffer - held)
+      → Brought moved buffer held (record { count = n; last = false; failed = false }) buffer
+  brought-bytes (pos zero) t some e = absurd (some refl)
+  brought-bytes (pos (suc k)) t some e =
+      record {
+        failed-is = sym t;
+        last-is = sym (above k);
+        failure = λ f. absurd (clash (ltZ (pos (suc k)) (pos 0)) f t);
+        end = λ f. absurd (some f);
+        bytes = λ _. (e, refl);
+      }
+  brought-bytes (negsuc k) t some e = absurd (clash true refl t)
+
 -- ---- what a read gives
 
 module _ (s : Stream) {buffer : List ℕ} (o : InOrder s buffer) where
@@ -56,37 +116,33 @@ module _ (s : Stream) {buffer : List ℕ} (o : InOrder s buffer) where
         ended = λ l. absurd (clash true refl (sym l));
       }
 
-  module _ (more : s .full ≡ false) where
-    pub got-failure : {buffer′ : List ℕ} → length buffer′ ≡ length buffer → take (s .end) buffer′ ≡ take (s .end) buffer
-        → Read s buffer (record { count = 0; last = true; failed = true }) buffer′
-    got-failure size same =
-        record {
-          size = size;
-          kept = same;
-          within = omega (arith, o .within);
-          waits = λ t. absurd (clash (s .full) t more);
-          ended = λ l f. absurd (clash true refl f);
-        }
-
-    pub got-bytes : {buffer′ : List ℕ} {n : ℕ} → length buffer′ ≡ length buffer → take (s .end) buffer′ ≡ take (s .end) buffer
-        → s .end + n ≤ length buffer → Read s buffer (record { count = n; last = false; failed = false }) buffer′
-    got-bytes size same within =
-        record {
-          size = size;
-          kept = same;
-          within = within;
-          waits = λ t. absurd (clash (s .full) t more);
-          ended = λ l. absurd (clash true refl (sym l));
-        }
-
-    pub got-end : {read buffer′ : List ℕ} {n : ℕ} → longestLine + 1 < length buffer → length read ≡ length buffer
-        → take (s .end) read ≡ take (s .end) buffer → LineEnded read (s .end) buffer′ n
-        → Read s buffer (record { count = n; last = true; failed = false }) buffer′
-    got-end {read} room size same e =
-        record {
-          size = e .size ∙ size;
-          kept = e .kept ∙ same;
-          within = omega (arith, e .count, ending-most (take (s .end) read), o .front more .1);
-          waits = λ t. absurd (clash (s .full) t more);
-          ended = λ l f. rw same at (e .bytes);
-        }
+  -- else what it brought stands behind what is held
+  pub got-read : s .full ≡ false → longestLine + 1 < length buffer → (moved : ℤ) {read buffer′ : List ℕ} {g : Got} → length read ≡ length buffer
+      → take (s .end) read ≡ take (s .end) buffer → Brought moved read (s .end) g buffer′ → Read s buffer g buffer′
+  got-read more room (negsuc k) size same b =
+      let (none, stays) = b .failure refl in
+      record {
+        size = rw stays size;
+        kept = rw stays same;
+        within = omega (arith, none, o .within);
+        waits = λ t. absurd (clash (s .full) t more);
+        ended = λ l f. absurd (clash _ (b .failed-is) f);
+      }
+  got-read more room (pos zero) {read} size same b =
+      let e = b .end refl in
+      record {
+        size = e .size ∙ size;
+        kept = e .kept ∙ same;
+        within = omega (arith, e .count, ending-most (take (s .end) read), o .front more .1);
+        waits = λ t. absurd (clash (s .full) t more);
+        ended = λ l f. rw same at (e .bytes);
+      }
+  got-read more room (pos (suc k)) size same b =
+      let (some, stays) = b .bytes (above k) in
+      record {
+        size = rw stays size;
+        kept = rw stays same;
+        within = omega (arith, some, size, o .within);
+        waits = λ t. absurd (clash (s .full) t more);
+        ended = λ l. absurd (clash _ l (b .last-is ∙ above k));
+      }

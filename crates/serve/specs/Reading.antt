@@ -2,8 +2,11 @@
 use mathlib.Core.Path.{_≡_}
 use mathlib.Core.Bool.{true, false}
 use mathlib.Core.List.{List, _++_}
-use Prim.Native.Nat.{ℕ, _+_, _≤_, _<_}
+use Prim.Native.Nat.{ℕ, _+_, _-_, _≤_}
+use lib.IntN.{ℤ, pos}
 use lib.ListN.{length, take}
+use lib.Signed.{ltZ, leZ}
+use Rattle.io.specs.Counts.{clamped}
 use Rattle.stream.specs.Stream.{ending}
 use Rattle.serve.specs.declared.turn.Stream.{Stream}
 use Rattle.serve.specs.declared.read.Got.{Got}
@@ -14,6 +17,15 @@ pub record LineEnded (buffer : List ℕ) (held : ℕ) (buffer′ : List ℕ) (n 
   pub kept : take held buffer′ ≡ take held buffer
   pub count : n ≡ length (ending (take held buffer))
   pub bytes : take (held + n) buffer′ ≡ take held buffer ++ ending (take held buffer)
+
+-- What a read brought, by what it returned: a failure if that is negative, the end of the input if it is 0, else so many bytes, as far as there
+-- is room for them. The end is an LF behind a line that is not whole.
+pub record Brought (moved : ℤ) (buffer : List ℕ) (held : ℕ) (g : Got) (buffer′ : List ℕ) : Type 0 where
+  pub failed-is : g .failed ≡ ltZ moved (pos 0)
+  pub last-is : g .last ≡ leZ moved (pos 0)
+  pub failure : ltZ moved (pos 0) ≡ true → (g .count ≡ 0) × (buffer′ ≡ buffer)
+  pub end : moved ≡ pos 0 → LineEnded buffer held buffer′ (g .count)
+  pub bytes : leZ moved (pos 0) ≡ false → (g .count ≡ clamped moved (length buffer - held)) × (buffer′ ≡ buffer)
 
 -- The bytes that are left stay, and what came stands behind them, within the buffer. Nothing comes where a whole line is left. The end of the
 -- input is an LF behind a line that is not whole.

@@ -6,7 +6,7 @@ ghost use mathlib.Core.List.{_++_};
 ghost use Prim.Native.Nat.{_+_, _≤_, _<_};
 ghost use lib.ListN.{length, take};
 ghost use Rattle.serve.specs.Turning.{InOrder};
-ghost use Rattle.serve.specs.Reading.{LineEnded, Read};
+ghost use Rattle.serve.specs.Reading.{LineEnded, Brought, Read};
 
 // How many bytes came, whether they are the last, and whether a read failed.
 pub struct Got {
@@ -27,6 +27,32 @@ fn end_line(buffer: &mut [u8], held: usize) -> usize
     1
 }
 
+// What a read brought that returned `moved`: bytes, the end of the input, or a failure.
+fn brought(moved: isize, buffer: &mut [u8], held: usize) -> Got
+    requires { ⌜ held < length (now buffer) ⌝ }
+    ensures { λ r. ⌜ Brought moved (now (buffer .entry)) held r (now (buffer .exit)) ⌝ }
+{
+    if moved < 0 {
+        return Got {
+            count: 0,
+            last: true,
+            failed: true,
+        };
+    }
+    if moved == 0 {
+        return Got {
+            count: end_line(buffer, held),
+            last: true,
+            failed: false,
+        };
+    }
+    Got {
+        count: io::count(moved, &buffer[held..]),
+        last: false,
+        failed: false,
+    }
+}
+
 // Reads once behind what is held, unless a whole line is left that had no room.
 pub(crate) fn read_more(s: Stream, buffer: &mut [u8], input: i32) -> Got
     requires { ⌜ InOrder s (now buffer) × (121 < length (now buffer)) ⌝ }
@@ -41,24 +67,5 @@ pub(crate) fn read_more(s: Stream, buffer: &mut [u8], input: i32) -> Got
     }
     let held = s.end;
     let moved = libc::read(input, &mut buffer[held..]);
-    if moved < 0 {
-        return Got {
-            count: 0,
-            last: true,
-            failed: true,
-        };
-    }
-    let count = io::count(moved, &buffer[held..]);
-    if count == 0 {
-        return Got {
-            count: end_line(buffer, held),
-            last: true,
-            failed: false,
-        };
-    }
-    Got {
-        count,
-        last: false,
-        failed: false,
-    }
+    brought(moved, buffer, held)
 }
