@@ -5,6 +5,7 @@ ghost use mathlib.Core.Path.{_≡_};
 ghost use mathlib.Core.List.{_++_};
 ghost use Prim.Native.Nat.{_+_, _≤_, _<_};
 ghost use lib.ListN.{length, take};
+ghost use Rattle.reader.specs.Reading.{longestLine};
 ghost use Rattle.serve.specs.Turning.{InOrder};
 ghost use Rattle.serve.specs.Reading.{LineEnded, Brought, Read};
 
@@ -55,7 +56,7 @@ fn brought(moved: isize, buffer: &mut [u8], held: usize) -> Got
 
 // Reads once behind what is held, unless a whole line is left that had no room.
 pub(crate) fn read_more(s: Stream, buffer: &mut [u8], input: i32) -> Got
-    requires { ⌜ InOrder s (now buffer) × (121 < length (now buffer)) ⌝ }
+    requires { ⌜ InOrder s (now buffer) × (longestLine + 1 < length (now buffer)) ⌝ }
     ensures { λ r. ⌜ Read s (now (buffer .entry)) r (now (buffer .exit)) ⌝ }
 {
     if s.full {

@@ -1,10 +1,11 @@
 -- `serve::turn::turn` meets its contract: the lines are those that `answer_lines` answered, and what is left is what it left, or what `hold`
 -- moved to the front.
 use mathlib.Core.Path.{_≡_, refl, sym}
-use Prim.Native.Nat.{ℕ, _+_}
+use Prim.Native.Nat.{ℕ, suc, _+_}
 use native.Mathlib.Omega.{arith}
 use lib.ListN.{take, length-take}
 use lib.Seq.{length-take-le}
+use Rattle.reader.specs.Reading.{longestLine}
 use Rattle.serve.proofs.TurnLaws.{beyond-kept, filled-most, place-within, turned-full, turned-held, held-front, held-within, held-most}
 use borrow.Author.Needs.{needs}
 use Rattle.serve.proofs.turn.turn.Statement.{statement}
@@ -67,7 +68,7 @@ returns-2 c =
           record {
             order = omega arith;
             within = held-within (h .ensures);
-            front = λ _. (refl, omega (arith, h .ensures .count, held-most (a .buffer .now) (l .result .from) (a .s .end + a .got) 121));
+            front = λ _. (refl, omega (arith, h .ensures .count, held-most (a .buffer .now) (l .result .from) (a .s .end + a .got) (suc longestLine)));
           };
     }
 
