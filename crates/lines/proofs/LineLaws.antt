@@ -51,11 +51,6 @@ line-past (suc n) (b ∷ s) h e =
     (λ t. absurd (let k = rw t at e in omega arith))
     (λ t. let k : breaks (take n s) ≡ 0 = rw t at e in rw (t, line-past n s (omega arith) k) (omega arith))
 
-pub line-most : (s : List ℕ) → lineLength s ≤ length s
-unfolding lineLength
-line-most [] = omega arith
-line-most (b ∷ s) = by-test (eqb b lf) (λ t. rw t (omega arith)) (λ t. rw t (omega (arith, line-most s)))
-
 -- the bytes before it hold none
 pub line-unbroken : (s : List ℕ) → breaks (take (lineLength s) s) ≡ 0
 unfolding lineLength breaks

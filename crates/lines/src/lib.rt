@@ -14,7 +14,7 @@ const BLOCK: usize = 16;
 
 const HALF: usize = 8;
 
-// A byte that is no LF gives 0.
+// An LF gives 1, any other byte 0.
 fn mark(byte: u8) -> u8
     ensures { λ r. ⌜ r ≡ breaks (byte ∷ []) ⌝ }
 {
@@ -51,7 +51,7 @@ fn block_end(bytes: &[u8], at: usize) -> usize
     i
 }
 
-// Past half a block that holds no LF.
+// The place behind half a block that holds no LF, else the place itself.
 fn half_end(bytes: &[u8], at: usize) -> usize
     requires { ⌜ at ≤ length (now bytes) ⌝ }
     ensures { λ r. ⌜ SameEnd (now (bytes .entry)) at r ⌝ }

@@ -5,7 +5,7 @@ use mathlib.Core.List.{List, [], _∷_, _++_}
 use Prim.Native.Nat.{ℕ, zero, suc, _+_, _-_, _≤_, _<_}
 use native.Mathlib.Omega.{arith}
 use native.Mathlib.Numerals.{add-one}
-use borrow.Author.Tests.{ltb-true, lt-leb}
+use borrow.Author.Tests.{ltb-true, le-ltb, lt-leb}
 use lib.Dec.{leb}
 use lib.IntN.{ℤ, pos, negsuc}
 use lib.ListN.{length, take, drop, set, length-set, length-drop}
@@ -112,6 +112,7 @@ module _ (s : Stream) {buffer : List ℕ} (o : InOrder s buffer) where
         size = refl;
         kept = refl;
         within = omega (arith, o .within);
+        failure = λ f. absurd (clash true refl (sym f));
         waits = λ _. (refl, refl, refl);
         ended = λ l. absurd (clash true refl (sym l));
       }
@@ -125,6 +126,7 @@ module _ (s : Stream) {buffer : List ℕ} (o : InOrder s buffer) where
         size = rw stays size;
         kept = rw stays same;
         within = omega (arith, none, o .within);
+        failure = λ _. (b .last-is, none);
         waits = λ t. absurd (clash (s .full) t more);
         ended = λ l f. absurd (clash _ (b .failed-is) f);
       }
@@ -134,6 +136,7 @@ module _ (s : Stream) {buffer : List ℕ} (o : InOrder s buffer) where
         size = e .size ∙ size;
         kept = e .kept ∙ same;
         within = omega (arith, e .count, ending-most (take (s .end) read), o .front more .1);
+        failure = λ f. absurd (clash _ f (b .failed-is));
         waits = λ t. absurd (clash (s .full) t more);
         ended = λ l f. rw same at (e .bytes);
       }
@@ -143,6 +146,7 @@ module _ (s : Stream) {buffer : List ℕ} (o : InOrder s buffer) where
         size = rw stays size;
         kept = rw stays same;
         within = omega (arith, some, size, o .within);
+        failure = λ f. absurd (clash _ f (b .failed-is ∙ le-ltb (suc k) 0 (omega arith)));
         waits = λ t. absurd (clash (s .full) t more);
         ended = λ l. absurd (clash _ l (b .last-is ∙ above k));
       }

@@ -37,8 +37,8 @@ pub data Program : Stream → List ℕ → List ℕ → List ℕ → Type 0 wher
 abbrev pub inputOf : List ℕ → Input
 inputOf l = record { line = l; room = leastOutput }
 
--- 'splits at LF (a last line without LF counts if not empty) and writes one line for each. Nothing precedes or follows': what was written is
--- the answers to the lines of the input, in turn, and the keeper is that of demand 3's run of them.
+-- 'splits at LF (a last line without LF counts if not empty) and writes one line for each. Nothing precedes or follows': what its turns had
+-- to write is the answers to the lines of the input, in turn, and the keeper is that of demand 3's run of them.
 pub record AnswersTheLines (input written : List ℕ) (k : Keeper) : Type 0 where
   pub answers : Answers keeperNext IsAnswer fresh (linesOf input) written
   pub keeper-is : k ≡ keeperThrough fresh (map inputOf (linesOf input))

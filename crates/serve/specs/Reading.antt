@@ -27,11 +27,12 @@ pub record Brought (moved : ℤ) (buffer : List ℕ) (held : ℕ) (g : Got) (buf
   pub end : moved ≡ pos 0 → LineEnded buffer held buffer′ (g .count)
   pub bytes : leZ moved (pos 0) ≡ false → (g .count ≡ clamped moved (length buffer - held)) × (buffer′ ≡ buffer)
 
--- The bytes that are left stay, and what came stands behind them, within the buffer. Nothing comes where a whole line is left. The end of the
--- input is an LF behind a line that is not whole.
+-- The bytes that are left stay, and what came stands behind them, within the buffer. Nothing comes where a whole line is left, and nothing by a
+-- read that failed, which is the last. The end of the input is an LF behind a line that is not whole.
 pub record Read (s : Stream) (buffer : List ℕ) (g : Got) (buffer′ : List ℕ) : Type 0 where
   pub size : length buffer′ ≡ length buffer
   pub kept : take (s .end) buffer′ ≡ take (s .end) buffer
   pub within : s .end + g .count ≤ length buffer
+  pub failure : g .failed ≡ true → (g .last ≡ true) × (g .count ≡ 0)
   pub waits : s .full ≡ true → (g .count ≡ 0) × (g .last ≡ false) × (g .failed ≡ false)
   pub ended : g .last ≡ true → g .failed ≡ false → take (s .end + g .count) buffer′ ≡ take (s .end) buffer ++ ending (take (s .end) buffer)

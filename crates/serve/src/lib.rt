@@ -1,5 +1,5 @@
-// Lines from one descriptor to another, through one keeper: the work of the program boardtime. What is not input or output stands in `answer`,
-// `read` and `turn`; the loop here only reads and writes.
+// Lines from one descriptor to another, through one keeper: the work of the program boardtime. `answer` and `turn` have no input or output;
+// `read` makes the one read of a turn; the loop here goes from turn to turn and writes.
 use crate::read::read_more;
 use crate::turn::Stream;
 use crate::turn::answers;

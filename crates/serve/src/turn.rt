@@ -10,7 +10,7 @@ ghost use lib.ListN.{length, take};
 ghost use Rattle.line.specs.Call.{leastOutput};
 ghost use Rattle.serve.specs.Turning.{InOrder, Turned};
 
-// A line is held to the longest that a command may have and one byte more: what is longer is refused by that much of it.
+// So much is held of an unfinished line: one byte more than a command may have, by which a line that is too long is refused.
 const HELD: usize = LONGEST_LINE + 1;
 
 // The program between two turns. The bytes from `from` up to `end` of its buffer are not answered yet. The answers of the last turn fill the
@@ -23,6 +23,8 @@ pub struct Stream {
     pub full: bool,
 }
 
+// Answers what was left and the `got` bytes that came behind it, as far as the output has room. What is left of a line that is not whole is
+// moved to the front of the buffer; where a whole line is left, all stays in its place.
 pub(crate) fn turn(s: Stream, got: usize, buffer: &mut [u8], out: &mut [u8]) -> Stream
     requires { ⌜ InOrder s (now buffer) × (s .end + got ≤ length (now buffer)) × (leastOutput ≤ length (now out)) ⌝ }
     ensures { λ r. ⌜ Turned s got (now (buffer .entry)) (now (out .entry)) r (now (buffer .exit)) (now (out .exit)) ⌝ }

@@ -20,7 +20,7 @@ module _ {S : Type 0} (next : S → List ℕ → S) (Answer : S → List ℕ →
 
   -- One turn over bytes: the lines answered are those at the front, each ended by its LF; `o` was written. Where the output had no room left
   -- for one more answer (`full`), a line was answered, and a whole line is left with all that follows it. Otherwise no LF is left, and of
-  -- the unfinished line `most` bytes and one more are held.
+  -- the unfinished line at most `most` bytes and one more are held.
   pub record Turn (most : ℕ) (s : S) (bytes : List ℕ) (s′ : S) (left o : List ℕ) (full : Bool) : Type 0 where
     pub lines : List (List ℕ)
     pub rest : List ℕ
@@ -31,7 +31,7 @@ module _ {S : Type 0} (next : S → List ℕ → S) (Answer : S → List ℕ →
     pub more : full ≡ true → (left ≡ rest) × (0 < breaks rest) × (0 < length lines)
     pub held : full ≡ false → (left ≡ take (suc most) rest) × (breaks rest ≡ 0)
 
--- What was read before a turn (nothing where the turn before had no room left), and what the turn wrote.
+-- What was read before a turn, which may be nothing, and what the turn wrote.
 pub record Step : Type 0 where
   pub got : List ℕ
   pub wrote : List ℕ

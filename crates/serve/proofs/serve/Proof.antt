@@ -1,5 +1,5 @@
--- `serve::serve` ends: it counts its turns down. The loop's invariant: the program is one that turns have made of what was read, so that the
--- answers to its input are those of `program-answers`.
+-- `serve::serve` ends: it counts its turns down. The loop's invariant: its keeper, its places and its buffer are those that reads and turns have
+-- made, as `program-answers` supposes. What is written is no part of it.
 use borrow.Author.Needs.{needs}
 use mathlib.Core.Path.{_≡_, refl, sym}
 use mathlib.Core.List.{List, []}
