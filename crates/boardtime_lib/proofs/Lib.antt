@@ -1,3 +1,3 @@
 -- Laws about the definitions of specs/.
-pub mod LentLaws
+pub mod ImageLaws
 pub mod Replayed

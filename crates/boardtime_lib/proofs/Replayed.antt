@@ -7,7 +7,7 @@ use native.Mathlib.Omega.{arith}
 use borrow.Author.Tests.{eqb-false}
 use lib.Dec.{eqb}
 use lib.ListN.{length}
-use Rattle.moment.proofs.Integers.{by-test}
+use Rattle.bits.proofs.Tests.{by-test}
 use Rattle.keeper.specs.State.{fresh}
 use Rattle.keeper.specs.declared.Keeper.{Keeper}
 use Rattle.line.specs.Call.{numberAfter, keeperAfter}
@@ -15,11 +15,11 @@ use Rattle.line.proofs.ResponseLaws.{number-most, refused-leaves}
 use Rattle.image.specs.Layout.{imageLength, imageOf, readable, keeperIn, AllBelow}
 use Rattle.image.proofs.LayoutLaws.{image-length}
 use Rattle.image.proofs.ReadBack.{read-is-image}
-use Rattle.image.proofs.Kept.{kept-read-back}
+use Rattle.image.proofs.StartedFits.{kept-read-back}
 use Rattle.history.specs.Log.{Input}
 use Rattle.history.specs.Demand3.{keeperThrough}
 use Rattle.history.proofs.Theorem.{demand-3, through-kept, through-more}
-use Rattle.boardtime_lib.specs.Lent.{imageLeft, Answered, LineLent}
+use Rattle.boardtime_lib.specs.Images.{imageLeft, Answered, LineImage}
 use Rattle.boardtime_lib.specs.Replay.{LineCall, inputOf, Replayed, HoldsTheRun}
 
 -- ---- the result of a call with a line, taken apart
@@ -36,7 +36,7 @@ result-parts {image} {line} {out} {r = r} a =
 -- ---- one call on the image of a keeper that is read back
 
 module _ (k : Keeper) (line out : List ℕ) (back : keeperIn (imageOf k) ≡ k) (long : length (imageOf k) ≡ imageLength) where
-  call-moves : {r : ℕ} {image′ out′ : List ℕ} → LineLent (imageOf k) line out r image′ out′ → image′ ≡ imageOf (keeperAfter k line (length out))
+  call-moves : {r : ℕ} {image′ out′ : List ℕ} → LineImage (imageOf k) line out r image′ out′ → image′ ≡ imageOf (keeperAfter k line (length out))
   unfolding imageLeft
   call-moves lent =
       let a = lent .answered long in

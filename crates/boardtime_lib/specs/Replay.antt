@@ -7,7 +7,7 @@ use Rattle.keeper.specs.State.{fresh}
 use Rattle.image.specs.Layout.{imageOf, keeperIn}
 use Rattle.history.specs.Log.{Input}
 use Rattle.history.specs.Demand3.{keeperThrough, Demand3}
-use Rattle.boardtime_lib.specs.Lent.{LineLent}
+use Rattle.boardtime_lib.specs.Images.{LineImage}
 
 -- A line, and the output that is lent with it.
 pub record LineCall : Type 0 where
@@ -21,7 +21,7 @@ inputOf c = record { line = c .line; room = length (c .out) }
 abbrev pub Replayed : List ℕ → List LineCall → List ℕ → Type 0
 Replayed image [] final = final ≡ image
 Replayed image (c ∷ cs) final =
-    (image′ : List ℕ) × (out′ : List ℕ) × (r : ℕ) × LineLent image (c .line) (c .out) r image′ out′ × Replayed image′ cs final
+    (image′ : List ℕ) × (out′ : List ℕ) × (r : ℕ) × LineImage image (c .line) (c .out) r image′ out′ × Replayed image′ cs final
 
 -- The image holds the keeper of the lines, of which demand 3 is claimed.
 pub record HoldsTheRun (calls : List LineCall) (final : List ℕ) : Type 0 where

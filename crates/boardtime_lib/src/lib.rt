@@ -8,7 +8,7 @@ use keeper::Keeper;
 use keeper::answers::number_of;
 use line::call;
 ghost use mathlib.Core.Path.{_≡_};
-ghost use Rattle.boardtime_lib.specs.Lent.{FreshLent, LineLent, PassLent};
+ghost use Rattle.boardtime_lib.specs.Images.{FreshImage, LineImage, PassImage};
 
 // Returned for a buffer that has not the length of an image. No refusal of document 01 or 02 has this number.
 pub const WRONG_LENGTH: u8 = 255;
@@ -19,7 +19,7 @@ const OUTSIDE_LIMITS: u8 = 2;
 // Stores the image of a fresh keeper.
 #[no_mangle]
 pub extern "C" fn boardtime_fresh(image: &mut [u8]) -> u8
-    ensures { λ r. ⌜ FreshLent (now (image .entry)) r (now (image .exit)) ⌝ }
+    ensures { λ r. ⌜ FreshImage (now (image .entry)) r (now (image .exit)) ⌝ }
 {
     if !is_image(image) {
         return WRONG_LENGTH;
@@ -32,7 +32,7 @@ pub extern "C" fn boardtime_fresh(image: &mut [u8]) -> u8
 // it was, to the byte, also one that can't be read.
 #[no_mangle]
 pub extern "C" fn boardtime_line(image: &mut [u8], line: &[u8], out: &mut [u8]) -> u32
-    ensures { λ r. ⌜ LineLent (now (image .entry)) (now (line .entry)) (now (out .entry)) r (now (image .exit)) (now (out .exit)) ⌝ }
+    ensures { λ r. ⌜ LineImage (now (image .entry)) (now (line .entry)) (now (out .entry)) r (now (image .exit)) (now (out .exit)) ⌝ }
 {
     if !is_image(image) {
         return WRONG_LENGTH as u32;
@@ -52,7 +52,7 @@ pub extern "C" fn boardtime_line(image: &mut [u8], line: &[u8], out: &mut [u8]) 
 // number is never cut short on the way in: one above the limit is refused, whatever its lower half is.
 #[no_mangle]
 pub extern "C" fn boardtime_pass(image: &mut [u8], ticks: u64) -> u8
-    ensures { λ r. ⌜ PassLent (now (image .entry)) ticks r (now (image .exit)) ⌝ }
+    ensures { λ r. ⌜ PassImage (now (image .entry)) ticks r (now (image .exit)) ⌝ }
 {
     if !is_image(image) {
         return WRONG_LENGTH;

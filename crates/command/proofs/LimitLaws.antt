@@ -9,19 +9,20 @@ use lib.IntN.{ℤ, pos, negℤ, _-ℤ_, +ℤ-idl}
 use mir.Syntax.{w64}
 use mir.Val.{toZ, ofZ, SFits}
 use mir.Facts.{toZ-ofZ}
-use Rattle.text.specs.Words.{choose}
+use Rattle.bits.specs.Choice.{choose}
 use Rattle.numeral.specs.Reading.{integer}
 use Rattle.moment.specs.Moment.{inRange}
 use Rattle.moment.specs.declared.Interval.{Interval}
 use Rattle.moment.proofs.Integers.{ints, below}
-use Rattle.moment.proofs.Intervals.{range-before, range-after}
+use Rattle.moment.proofs.IntervalLaws.{range-before, range-after}
 use Rattle.command.specs.Forms.{Form}
-use Rattle.command.specs.Limits.{boardWithin, claimWithin, ticksWithin, tagWithin, edgesWithin, keeps, commandOf, limited}
-use Rattle.command.specs.Edges.{edgeValue, integerOf, boundsOf}
+use Rattle.command.specs.Limits.{boardWithin, claimWithin, ticksWithin, tagWithin, keeps, commandOf, limited}
+use Rattle.command.specs.Edges.{edgeValue, integerOf}
 use Rattle.command.specs.declared.Reading.the-variants.{Accepted, OutsideLimits}
 use Rattle.command.specs.declared.accept.Edge.{Edge}
 use Rattle.command.specs.declared.accept.Integer.the-variants as I
-use Rattle.command.specs.declared.accept.Bounds.the-variants as B
+use Rattle.moment.specs.declared.intervals.Bounds.the-variants as B
+use Rattle.moment.specs.Intervals.{edgesWithin, boundsOf}
 
 -- ---- one number
 
@@ -84,41 +85,6 @@ far-edge e h = go (leb (e .magnitude) 9223372036854775807) refl h
     go : (t : Bool) → leb (e .magnitude) 9223372036854775807 ≡ t → choose t (λ _. I.Of (edgeValue e)) (λ _. I.TooFar) ≡ I.TooFar → inRange (edgeValue e) ≡ false
     go true p h = absurd (let k : _≡_ {A = ℕ} 0 1 = cc in omega arith)
     go false p h = far (e .negative) (e .magnitude) (leb-false (e .magnitude) 9223372036854775807 p)
-
--- ---- two edges
-
-module _ (i : Interval) where
-  pub bounds-first : inRange (i .lower) ≡ false → boundsOf i ≡ B.Outside
-  unfolding boundsOf edgesWithin
-  bounds-first e = rw e
-
-  pub bounds-second : inRange (i .upper) ≡ false → boundsOf i ≡ B.Outside
-  unfolding boundsOf edgesWithin
-  bounds-second e = rw (e, and-false (inRange (i .lower)))
-
-  pub bounds-kept : edgesWithin i ≡ true → boundsOf i ≡ B.Within i
-  unfolding boundsOf
-  bounds-kept e = rw e
-
-  pub bounds-broken : edgesWithin i ≡ false → boundsOf i ≡ B.Outside
-  unfolding boundsOf
-  bounds-broken e = rw e
-
-  pub kept-bounds : (j : Interval) → boundsOf i ≡ B.Within j → (edgesWithin i ≡ true) × (j ≡ i)
-  unfolding boundsOf
-  kept-bounds j h = go (edgesWithin i) refl h
-    where
-      go : (t : Bool) → edgesWithin i ≡ t → choose t (λ _. B.Within i) (λ _. B.Outside) ≡ B.Within j → (edgesWithin i ≡ true) × (j ≡ i)
-      go true e h = (e, cc)
-      go false e h = absurd (let k : _≡_ {A = ℕ} 0 1 = cc in omega arith)
-
-  pub broken-bounds : boundsOf i ≡ B.Outside → edgesWithin i ≡ false
-  unfolding boundsOf
-  broken-bounds h = go (edgesWithin i) refl h
-    where
-      go : (t : Bool) → edgesWithin i ≡ t → choose t (λ _. B.Within i) (λ _. B.Outside) ≡ B.Outside → edgesWithin i ≡ false
-      go true e h = absurd (let k : _≡_ {A = ℕ} 0 1 = cc in omega arith)
-      go false e h = e
 
 -- ---- a form, by whether it keeps its limits
 

@@ -7,8 +7,8 @@ use lib.IntN.{ℤ}
 use Rattle.text.specs.Words.{bytes}
 use Rattle.numeral.specs.Numerals.{Numeral, SignedNumeral}
 use Rattle.moment.specs.declared.Interval.{Interval}
-use Rattle.command.specs.declared.Rule.{Rule}
-use Rattle.command.specs.declared.Rule.the-variants.{Im, Mm}
+use Rattle.rules.specs.declared.Rule.{Rule}
+use Rattle.rules.specs.declared.Rule.the-variants.{Im, Mm}
 
 -- A form: its word, and the numbers of its parts. Of a pair of edges the first is the lower, or TRAILING, and the second the upper, or
 -- LEADING.

@@ -2,3 +2,4 @@
 pub mod Forms
 pub mod Limits
 pub mod Edges
+pub mod Causes

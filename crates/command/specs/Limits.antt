@@ -2,9 +2,8 @@
 use mathlib.Core.Bool.{Bool, true, _&&_}
 use Prim.Native.Nat.{ℕ}
 use lib.Dec.{leb}
-use lib.Signed.{leZ}
-use Rattle.text.specs.Words.{choose}
-use Rattle.moment.specs.Moment.{inRange}
+use Rattle.bits.specs.Choice.{choose}
+use Rattle.moment.specs.Intervals.{edgesWithin}
 use Rattle.moment.specs.declared.Interval.{Interval}
 use Rattle.command.specs.Forms as F
 use Rattle.command.specs.Forms.{Form}
@@ -28,10 +27,6 @@ ticksWithin ticks = leb ticks 86400000
 -- 'TAG 1 through 16777215'
 unfoldable pub tagWithin : ℕ → Bool
 tagWithin tag = leb 1 tag && leb tag 16777215
-
--- both edges in the range, and not 'a first edge above the second'
-unfoldable pub edgesWithin : Interval → Bool
-edgesWithin edges = inRange (edges .lower) && inRange (edges .upper) && leZ (edges .lower) (edges .upper)
 
 -- The form keeps every limit.
 abbrev pub keeps : Form → Bool

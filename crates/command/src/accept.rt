@@ -1,17 +1,19 @@
 // From the numbers of a shape to its command, or refusal 2.
 use crate::Command;
 use crate::Reading;
-use crate::Rule;
 use crate::limits::board_within;
 use crate::limits::claim_within;
-use crate::limits::edges_within;
 use crate::limits::tag_within;
 use crate::limits::ticks_within;
 use moment::Interval;
+use moment::intervals::Bounds;
+use moment::intervals::edges_within;
+use rules::Rule;
 ghost use mathlib.Core.Path.{_≡_};
 ghost use Rattle.command.specs.Forms.{start, pass, request, reply, drop};
 ghost use Rattle.command.specs.Limits.{limited};
-ghost use Rattle.command.specs.Edges.{edgeValue, interval, integerOf, boundsOf};
+ghost use Rattle.command.specs.Edges.{edgeValue, integerOf};
+ghost use Rattle.moment.specs.Intervals.{interval, boundsOf};
 
 // The largest magnitude that is an i64 of either sign.
 const MOST_MAGNITUDE: u64 = 9223372036854775807;
@@ -26,12 +28,6 @@ pub struct Edge {
 pub enum Integer {
     Of(i64),
     TooFar,
-}
-
-// Two edges in order and within the range, or not.
-pub enum Bounds {
-    Within(Interval),
-    Outside,
 }
 
 // Nineteen digits may exceed an i64, so the magnitude is looked at before it becomes one.

@@ -1,14 +1,9 @@
 // Commands and their limits: document 01, 'Line forms'.
 use moment::Interval;
+use rules::Rule;
 
 pub mod accept;
 pub mod limits;
-
-// 'RULE is `im` or `mm`'
-pub enum Rule {
-    Im,
-    Mm,
-}
 
 // A command. The reader answers only those whose numbers are within their limits. Of a reply's edges the lower is TRAILING and the upper LEADING.
 pub enum Command {

@@ -1,8 +1,10 @@
 // The limits of each number: document 01, 'Line forms' and 'Moments and ticks'. Each stands here once.
 use moment::Interval;
-use moment::in_range;
+use moment::intervals::edges_within;
 ghost use mathlib.Core.Path.{_≡_};
-ghost use Rattle.command.specs.Limits.{boardWithin, claimWithin, ticksWithin, tagWithin, edgesWithin};
+ghost use mathlib.Core.Bool.{_&&_};
+ghost use Rattle.command.specs.Limits.{boardWithin, claimWithin, ticksWithin, tagWithin};
+ghost use Rattle.moment.specs.Intervals.{edgesWithin};
 
 pub const LAST_BOARD: u64 = 15;
 
@@ -38,15 +40,28 @@ pub fn tag_within(tag: u64) -> bool
     1 <= tag && tag <= MOST_TAG
 }
 
-// Both in the range, and the first not above the second.
-pub fn edges_within(edges: Interval) -> bool
-    ensures { λ r. ⌜ r ≡ edgesWithin edges ⌝ }
+// The numbers of a start.
+pub fn start_within(board: u8, claim: u16, edges: Interval) -> bool
+    ensures { λ r. ⌜ r ≡ boardWithin board && claimWithin claim && edgesWithin edges ⌝ }
 {
-    if !in_range(edges.lower) {
+    if !board_within(board as u64) {
         return false;
     }
-    if !in_range(edges.upper) {
+    if !claim_within(claim as u64) {
         return false;
     }
-    edges.lower <= edges.upper
+    edges_within(edges)
+}
+
+// The numbers of a reply.
+pub fn reply_within(peer: u8, tag: u32, edges: Interval) -> bool
+    ensures { λ r. ⌜ r ≡ boardWithin peer && tagWithin tag && edgesWithin edges ⌝ }
+{
+    if !board_within(peer as u64) {
+        return false;
+    }
+    if !tag_within(tag as u64) {
+        return false;
+    }
+    edges_within(edges)
 }

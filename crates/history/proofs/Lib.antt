@@ -7,3 +7,6 @@ pub mod Commands
 pub mod Lines
 pub mod Theorem
 pub mod Witness
+pub mod Moments
+pub mod Starts
+pub mod Counted

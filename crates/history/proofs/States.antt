@@ -1,4 +1,4 @@
--- Each command moves the log's state as it moves the keeper's values.
+-- Each command changes the log's state as it changes the keeper's values.
 use mathlib.Core.Path.{_≡_, refl, sym, _∙_}
 use mathlib.Core.Bool.{Bool, true, false}
 use mathlib.Core.List.{List}
@@ -8,21 +8,23 @@ use borrow.Author.Tests.{eqb-true, eqb-false}
 use lib.Dec.{eqb}
 use lib.ListN.{length, getD, set, replicate}
 use lib.Seq.{getD-set-same, getD-set-other}
-use Rattle.text.specs.Words.{choose}
+use Rattle.bits.specs.Choice.{choose}
+use Rattle.bits.specs.Bits.{bitOf}
+use Rattle.bits.specs.Below.{updated}
+use Rattle.bits.proofs.BitLaws.{bit-beyond, bit-set, bit-cleared}
 use Rattle.moment.specs.declared.Interval.{Interval}
-use Rattle.command.specs.declared.Rule.{Rule}
 use Rattle.rules.specs.Rules.{widened}
-use Rattle.keeper.specs.State.{bitOf, put, countsAsStarted, stateOf, fresh}
-use Rattle.keeper.specs.Apply.{begun, at, asked, ended}
+use Rattle.rules.specs.declared.Rule.{Rule}
+use Rattle.keeper.specs.State.{countsAsStarted, stateOf, fresh}
+use Rattle.keeper.specs.Apply.{begun, changed, passedTo, asked, ended}
 use Rattle.keeper.specs.declared.Keeper.{Keeper}
-use Rattle.keeper.proofs.Bits.{bit-beyond, bit-set, bit-cleared}
-use Rattle.history.specs.Log.{logStart, logStarted, logPassed, logAsked, logEnded}
-use Rattle.keeper.proofs.Kept.{Sized, fresh-not-started}
+use Rattle.keeper.proofs.StartedLaws.{Sized, fresh-not-started}
+use Rattle.history.specs.Log.{logStart, logStarted, stateWith, logPassed, logAsked, logEnded}
 
 -- a value stored at a place of a list, read at every place
-set-put : (l : List ℕ) (p v : ℕ) → p < length l → (q : ℕ) → put (λ r. getD l r 0) p v q ≡ getD (set l p v) q 0
-unfolding put
-set-put l p v h q = go (eqb q p) refl
+set-updated : (l : List ℕ) (p v : ℕ) → p < length l → (q : ℕ) → updated (λ r. getD l r 0) p v q ≡ getD (set l p v) q 0
+unfolding updated
+set-updated l p v h q = go (eqb q p) refl
   where
     go : (t : Bool) → eqb q p ≡ t → choose t (λ _. v) (λ _. getD l q 0) ≡ getD (set l p v) q 0
     go true e = sym (rw (eqb-true q p e) (getD-set-same l p v 0 h))
@@ -74,51 +76,18 @@ begun-state board rule claim edges after =
       sentAt = λ q. getD (fresh .«sent_at») q 0;
     }
 
--- The other commands that move the state come after a start.
+-- The other commands come after a start.
 module _ (k : Keeper) (before : countsAsStarted k ≡ true) where
-  pub at-state : (n : ℕ) → let after = at k (widened (k .claim) n (k .edges)) (k .ticks + n) in
-      countsAsStarted after ≡ true → logPassed (stateOf k) n ≡ stateOf after
-  unfolding logPassed stateOf at
-  at-state n after =
-      λ i.
-      record {
-        started = (before ∙ sym after) i;
-        board = k .board;
-        rule = k .rule;
-        claim = k .claim;
-        edges = widened (k .claim) n (k .edges);
-        ticks = k .ticks + n;
-        requests = k .requests;
-        conflicts = k .conflicts;
-        waits = bitOf (k .waiting);
-        tag = λ q. getD (k .tags) q 0;
-        sentAt = λ q. getD (k .«sent_at») q 0;
-      }
-
-  pub asked-state : (p : ℕ) → Sized k → p < 16 → bitOf (k .waiting) p ≡ false
-      → countsAsStarted (asked k p) ≡ true → logAsked (stateOf k) p ≡ stateOf (asked k p)
-  unfolding logAsked stateOf asked
-  asked-state p sized small bit after =
-      λ i.
-      record {
-        started = (before ∙ sym after) i;
-        board = k .board;
-        rule = k .rule;
-        claim = k .claim;
-        edges = k .edges;
-        ticks = k .ticks;
-        requests = k .requests + 1;
-        conflicts = k .conflicts;
-        waits = λ q. sym (bit-set (k .waiting) p bit q) i;
-        tag = λ q. set-put (k .tags) p (k .requests + 1) (omega arith) q i;
-        sentAt = λ q. set-put (k .«sent_at») p (k .ticks) (omega arith) q i;
-      }
-
-  pub ended-state : (p : ℕ) (edges : Interval) (conflicts : ℕ) → Sized k → p < 16 → bitOf (k .waiting) p ≡ true
-      → countsAsStarted (ended k p edges conflicts) ≡ true
-      → logEnded (stateOf k) p edges conflicts ≡ stateOf (ended k p edges conflicts)
-  unfolding logEnded stateOf ended
-  ended-state p edges conflicts sized small bit after =
+  -- what is changed in the keeper is changed in the state: the peers by what is read of them
+  changed-state : (edges : Interval) (ticks requests conflicts waiting : ℕ) (tags sent : List ℕ)
+      → (waits : ℕ → Bool) (tag sentAt : ℕ → ℕ)
+      → ((q : ℕ) → waits q ≡ bitOf waiting q)
+      → ((q : ℕ) → tag q ≡ getD tags q 0)
+      → ((q : ℕ) → sentAt q ≡ getD sent q 0)
+      → countsAsStarted (changed k edges ticks requests conflicts waiting tags sent) ≡ true
+      → stateWith (stateOf k) edges ticks requests conflicts waits tag sentAt ≡ stateOf (changed k edges ticks requests conflicts waiting tags sent)
+  unfolding stateWith stateOf changed
+  changed-state edges ticks requests conflicts waiting tags sent waits tag sentAt w t s after =
       λ i.
       record {
         started = (before ∙ sym after) i;
@@ -126,10 +95,34 @@ module _ (k : Keeper) (before : countsAsStarted k ≡ true) where
         rule = k .rule;
         claim = k .claim;
         edges = edges;
-        ticks = k .ticks;
-        requests = k .requests;
+        ticks = ticks;
+        requests = requests;
         conflicts = conflicts;
-        waits = λ q. sym (bit-cleared (k .waiting) p bit q) i;
-        tag = λ q. set-put (k .tags) p 0 (omega arith) q i;
-        sentAt = λ q. set-put (k .«sent_at») p 0 (omega arith) q i;
+        waits = λ q. w q i;
+        tag = λ q. t q i;
+        sentAt = λ q. s q i;
       }
+
+  pub passed-state : (n : ℕ) → let after = passedTo k (widened (k .claim) n (k .edges)) (k .ticks + n) in
+      countsAsStarted after ≡ true → logPassed (stateOf k) n ≡ stateOf after
+  unfolding logPassed passedTo stateOf
+  passed-state n after = changed-state _ _ _ _ _ _ _ _ _ _ (λ q. refl) (λ q. refl) (λ q. refl) after
+
+  pub asked-state : (p : ℕ) → Sized k → p < 16 → bitOf (k .waiting) p ≡ false
+      → countsAsStarted (asked k p) ≡ true → logAsked (stateOf k) p ≡ stateOf (asked k p)
+  unfolding logAsked asked stateOf
+  asked-state p sized small bit after =
+      changed-state _ _ _ _ _ _ _ _ _ _ (λ q. sym (bit-set (k .waiting) p bit q))
+      (set-updated (k .tags) p (k .requests + 1) (omega arith))
+      (set-updated (k .«sent_at») p (k .ticks) (omega arith))
+      after
+
+  pub ended-state : (p : ℕ) (edges : Interval) (conflicts : ℕ) → Sized k → p < 16 → bitOf (k .waiting) p ≡ true
+      → countsAsStarted (ended k p edges conflicts) ≡ true
+      → logEnded (stateOf k) p edges conflicts ≡ stateOf (ended k p edges conflicts)
+  unfolding logEnded ended stateOf
+  ended-state p edges conflicts sized small bit after =
+      changed-state _ _ _ _ _ _ _ _ _ _ (λ q. sym (bit-cleared (k .waiting) p bit q))
+      (set-updated (k .tags) p 0 (omega arith))
+      (set-updated (k .«sent_at») p 0 (omega arith))
+      after

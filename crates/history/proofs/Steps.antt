@@ -4,45 +4,51 @@ use mathlib.Core.Bool.{true, false}
 use Prim.Native.Nat.{ℕ, _+_, _-_, _*_, _^_, _≤_, _<_}
 use native.Mathlib.Omega.{arith}
 use lib.IntN.{ℤ}
-use Rattle.moment.specs.Moment.{shortest, longest, Holds}
+use Rattle.bits.specs.Bits.{bitOf}
+use Rattle.bits.specs.Below.{one, countBelow}
+use Rattle.bits.proofs.Tests.{clash}
+use Rattle.bits.proofs.Below.{count-updated}
+use Rattle.bits.proofs.BitLaws.{bit-set, bit-cleared}
+use Rattle.moment.specs.Moment.{shortest, longest}
+use Rattle.moment.specs.Intervals.{Holds, bothInRange, edgesWithin}
 use Rattle.moment.specs.declared.Interval.{Interval}
-use Rattle.command.specs.Limits.{keeps, formOf, edgesWithin}
-use Rattle.command.specs.declared.Rule.{Rule}
+use Rattle.moment.proofs.Within.{within-read}
+use Rattle.rules.specs.Rules.{widened}
+use Rattle.rules.specs.declared.Rule.{Rule}
+use Rattle.rules.proofs.Limits.{widened-within}
+use Rattle.rules.proofs.Sets.{passed-within, passed-reached}
+use Rattle.command.specs.Limits.{keeps, formOf}
 use Rattle.command.specs.declared.Command.the-variants as C
-use Rattle.rules.specs.Rules.{widened, bothInRange}
-use Rattle.keeper.specs.State.{bitOf, one, countBelow, countsAsStarted, stateOf, fresh, mostTicks, mostRequests}
-use Rattle.keeper.specs.Apply.{begun, at, asked, ended}
+use Rattle.keeper.specs.State.{countsAsStarted, stateOf, fresh, mostTicks, mostRequests}
+use Rattle.keeper.specs.Apply.{begun, changed, passedTo, asked, ended}
 use Rattle.keeper.specs.declared.Keeper.{Keeper}
-use Rattle.keeper.proofs.Bits.{bit-set, bit-cleared, count-put}
+use Rattle.keeper.proofs.StartedLaws.{Started, started-read, begun-sized, passed-sized, asked-sized, ended-sized, begun-kept, passed-kept, asked-kept, ended-kept}
 use Rattle.history.specs.Log.{logStarted, logPassed, logAsked, logEnded, withState}
 use Rattle.history.specs.Course.{advanced, passed}
-use Rattle.rules.proofs.Edges.{widened-within}
-use Rattle.keeper.proofs.Kept.{begun-sized, at-sized, asked-sized, ended-sized, begun-kept, at-kept, asked-kept, ended-kept}
-use Rattle.rules.proofs.Sets.{passed-within, passed-reached}
-use Rattle.history.proofs.States.{begun-state, at-state, asked-state, ended-state}
-use Rattle.history.proofs.Invariant.{logOf, Follows, Kept, Lands, Counts, counts, clash}
+use Rattle.history.proofs.States.{begun-state, passed-state, asked-state, ended-state}
+use Rattle.history.proofs.Invariant.{logOf, Follows, KeeperInvariant, Invariant}
 
 -- A request that is sent is one more that waits, and one that ends is one less.
 count-set : (w p : ℕ) → p < 16 → bitOf w p ≡ false → countBelow 16 (bitOf (w + 2 ^ p)) ≡ countBelow 16 (bitOf w) + 1
 count-set w p h e =
     let same = ap (countBelow 16) (fun-ext (bit-set w p e)) in
-    let gained = count-put 16 (bitOf w) p true h in
+    let gained = count-updated 16 (bitOf w) p true h in
     let none = ap one e in omega arith
 
 count-cleared : (w p : ℕ) → p < 16 → bitOf w p ≡ true → countBelow 16 (bitOf (w - 2 ^ p)) + 1 ≡ countBelow 16 (bitOf w)
 count-cleared w p h e =
     let same = ap (countBelow 16) (fun-ext (bit-cleared w p e)) in
-    let lost = count-put 16 (bitOf w) p false h in
+    let lost = count-updated 16 (bitOf w) p false h in
     let some = ap one e in omega arith
 
-module _ (k : Keeper) (taken kept dropped : ℕ) (stands : ℤ → Type 0) (held : Kept k taken kept dropped stands) where
+module _ (k : Keeper) (taken kept dropped : ℕ) (stands : ℤ → Type 0) (held : KeeperInvariant k taken kept dropped stands) where
   -- a fresh keeper is started: whoever is within the edges begins a course
-  pub start-lands : countsAsStarted k ≡ false
+  pub start-invariant : countsAsStarted k ≡ false
       → (board : ℕ) (rule : Rule) (claim : ℕ) (edges : Interval)
       → keeps (formOf (C.Start board rule claim edges)) ≡ true
-      → Lands (withState (logOf k taken kept dropped) (logStarted (stateOf k) board rule claim edges)) (begun board rule claim edges) (Holds edges)
+      → Invariant (withState (logOf k taken kept dropped) (logStarted (stateOf k) board rule claim edges)) (begun board rule claim edges) (Holds edges)
   unfolding begun fresh
-  start-lands out board rule claim edges limits =
+  start-invariant out board rule claim edges limits =
       let after = begun-kept board rule claim edges limits in
       let same : k ≡ fresh = held .unstarted out in
       record {
@@ -55,60 +61,60 @@ module _ (k : Keeper) (taken kept dropped : ℕ) (stands : ℤ → Type 0) (held
         holds =
             record {
               sized = begun-sized board rule claim edges;
-              unstarted = λ e. absurd (clash _ after e);
+              unstarted = λ e. absurd (clash after e);
               sum =
                   subst
                   (λ (x : Keeper). x .requests ≡ taken + kept + x .conflicts + dropped + countBelow 16 (bitOf (x .waiting)))
                   same
                   (held .sum);
-              follows = record { within = λ m h. h; calm = λ m h. refl; reached = λ r s c m h. h };
+              follows = record { within = λ m h. h; no-conflict = λ m h. refl; reached = λ r s c m h. h };
             };
       }
 
   -- ticks pass: the edges widen as far as courses may go
-  pub pass-lands : countsAsStarted k ≡ true
+  pub pass-invariant : countsAsStarted k ≡ true
       → (n : ℕ)
       → bothInRange (widened (k .claim) n (k .edges)) ≡ true
       → k .ticks + n ≤ mostTicks
-      → Lands (withState (logOf k taken kept dropped) (logPassed (stateOf k) n)) (at k (widened (k .claim) n (k .edges)) (k .ticks + n)) (advanced (passed (n * shortest (k .claim)) (n * longest (k .claim))) stands)
-  unfolding at
-  pass-lands before n range most =
-      let c : Counts k = counts k before in
+      → Invariant (withState (logOf k taken kept dropped) (logPassed (stateOf k) n)) (passedTo k (widened (k .claim) n (k .edges)) (k .ticks + n)) (advanced (passed (n * shortest (k .claim)) (n * longest (k .claim))) stands)
+  unfolding passedTo changed
+  pass-invariant before n range most =
+      let c : Started k = started-read k before in
       let edges = widened (k .claim) n (k .edges) in
       let within = widened-within (k .claim) n (k .edges) (c .claim) (c .edges) range in
-      let after = at-kept k edges (k .ticks + n) before within (omega arith) most in
+      let after = passed-kept k edges (k .ticks + n) before within (omega arith) most in
       record {
         taken = taken;
         kept = kept;
         dropped = dropped;
-        same = ap (withState (logOf k taken kept dropped)) (at-state k before n after);
+        same = ap (withState (logOf k taken kept dropped)) (passed-state k before n after);
         holds =
             record {
-              sized = at-sized (held .sized) edges (k .ticks + n);
-              unstarted = λ e. absurd (clash _ after e);
+              sized = passed-sized (held .sized) edges (k .ticks + n);
+              unstarted = λ e. absurd (clash after e);
               sum = held .sum;
               follows =
                   record {
                     within = λ m s. passed-within (k .claim) n (k .edges) (s .0) m (s .1) (held .follows .within (s .0) (s .2)) (s .3) (s .4) (s .5);
-                    calm = λ m s. held .follows .calm (s .0) (s .2);
+                    no-conflict = λ m s. held .follows .no-conflict (s .0) (s .2);
                     reached =
-                        λ r s q m h.
-                        let came = passed-reached (k .claim) n (k .edges) m (c .order) h in
-                        (came .moment, came .gained, held .follows .reached r before q (came .moment) (came .within), came .least-gained, came .most-gained, came .sum);
+                        λ im s q m h.
+                        let r = passed-reached (k .claim) n (k .edges) m (within-read (k .edges) (c .edges) .order) h in
+                        (r .moment, r .gained, held .follows .reached im before q (r .moment) (r .within), r .least-gained, r .most-gained, r .sum);
                   };
             };
       }
 
   -- a request is sent: no course moves
-  pub request-lands : countsAsStarted k ≡ true
+  pub request-invariant : countsAsStarted k ≡ true
       → (p : ℕ)
       → p < 16
       → (p ≡ k .board → ⊥)
       → bitOf (k .waiting) p ≡ false
       → k .requests < mostRequests
-      → Lands (withState (logOf k taken kept dropped) (logAsked (stateOf k) p)) (asked k p) stands
-  unfolding asked
-  request-lands before p small other free room =
+      → Invariant (withState (logOf k taken kept dropped) (logAsked (stateOf k) p)) (asked k p) stands
+  unfolding asked changed
+  request-invariant before p small other free room =
       let after = asked-kept k p (held .sized) before small other free room in
       record {
         taken = taken;
@@ -118,12 +124,12 @@ module _ (k : Keeper) (taken kept dropped : ℕ) (stands : ℤ → Type 0) (held
         holds =
             record {
               sized = asked-sized (held .sized) p small free;
-              unstarted = λ e. absurd (clash _ after e);
+              unstarted = λ e. absurd (clash after e);
               sum = let old = held .sum in omega (arith, count-set (k .waiting) p small free);
               follows =
                   record {
                     within = held .follows .within;
-                    calm = held .follows .calm;
+                    no-conflict = held .follows .no-conflict;
                     reached = λ r s. held .follows .reached r before;
                   };
             };
@@ -131,7 +137,7 @@ module _ (k : Keeper) (taken kept dropped : ℕ) (stands : ℤ → Type 0) (held
 
   -- A request ends, by a reply or by a drop, in one more taken, kept, conflict or dropped; what it does to the edges and to courses is the
   -- caller's.
-  pub ended-lands : countsAsStarted k ≡ true
+  pub ended-invariant : countsAsStarted k ≡ true
       → (p : ℕ)
       → p < 16
       → bitOf (k .waiting) p ≡ true
@@ -141,9 +147,9 @@ module _ (k : Keeper) (taken kept dropped : ℕ) (stands : ℤ → Type 0) (held
       → taken′ + kept′ + conflicts + dropped′ ≡ taken + kept + k .conflicts + dropped + 1
       → (stands′ : ℤ → Type 0)
       → Follows (ended k p edges conflicts) stands′
-      → Lands (record { state = logEnded (stateOf k) p edges conflicts; taken = taken′; kept = kept′; dropped = dropped′ }) (ended k p edges conflicts) stands′
-  unfolding ended
-  ended-lands before p small waits edges conflicts taken′ kept′ dropped′ within most count stands′ follows =
+      → Invariant (record { state = logEnded (stateOf k) p edges conflicts; taken = taken′; kept = kept′; dropped = dropped′ }) (ended k p edges conflicts) stands′
+  unfolding ended changed
+  ended-invariant before p small waits edges conflicts taken′ kept′ dropped′ within most count stands′ follows =
       let after = ended-kept k p edges conflicts (held .sized) before small waits within most in
       record {
         taken = taken′;
@@ -154,7 +160,7 @@ module _ (k : Keeper) (taken kept dropped : ℕ) (stands : ℤ → Type 0) (held
         holds =
             record {
               sized = ended-sized (held .sized) p edges conflicts;
-              unstarted = λ e. absurd (clash _ after e);
+              unstarted = λ e. absurd (clash after e);
               sum = let old = held .sum in omega (arith, count-cleared (k .waiting) p small waits);
               follows = follows;
             };
@@ -163,5 +169,5 @@ module _ (k : Keeper) (taken kept dropped : ℕ) (stands : ℤ → Type 0) (held
 -- a request that ends with the edges and the conflict count as they were moves no course
 pub still-follows : (k : Keeper) (p : ℕ) (stands : ℤ → Type 0) → countsAsStarted k ≡ true → Follows k stands
     → Follows (ended k p (k .edges) (k .conflicts)) stands
-unfolding ended
-still-follows k p stands before f = record { within = f .within; calm = f .calm; reached = λ r s. f .reached r before }
+unfolding ended changed
+still-follows k p stands before f = record { within = f .within; no-conflict = f .no-conflict; reached = λ r s. f .reached r before }

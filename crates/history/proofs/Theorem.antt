@@ -6,20 +6,24 @@ use mathlib.Core.Logic.{_↔_}
 use Prim.Native.Nat.{ℕ, zero, suc, _+_}
 use native.Mathlib.Omega.{arith}
 use lib.IntN.{ℤ}
-use Rattle.moment.specs.Moment.{Holds}
-use Rattle.moment.proofs.Integers.{ints, by-test}
-use Rattle.command.specs.declared.Rule.the-variants.{Im}
-use Rattle.keeper.specs.State.{bitOf, countBelow, countsAsStarted, stateOf, fresh}
+use Rattle.moment.specs.Intervals.{Holds}
+use Rattle.moment.proofs.Integers.{ints}
+use Rattle.moment.proofs.Within.{within-read}
+use Rattle.rules.specs.declared.Rule.the-variants.{Im}
+use Rattle.keeper.specs.State.{countsAsStarted, stateOf, fresh}
 use Rattle.keeper.specs.declared.Keeper.{Keeper}
-use Rattle.keeper.proofs.Bits.{bit-beyond}
+use Rattle.bits.proofs.Tests.{by-test, clash}
 use Rattle.history.specs.Log.{Input, Log, logStart, logAfter}
 use Rattle.history.specs.Course.{noCourse, coursesAfter}
 use Rattle.history.specs.Demand3.{keeperThrough, IsTheLog, Demand3}
 use Rattle.line.specs.Call.{keeperAfter}
-use Rattle.keeper.proofs.Kept.{Sized, fresh-sized, fresh-not-started}
+use Rattle.keeper.proofs.StartedLaws.{Sized, started-read, fresh-sized, fresh-not-started}
 use Rattle.history.proofs.States.{fresh-state}
-use Rattle.history.proofs.Invariant.{Lands, Counts, counts, clash}
-use Rattle.history.proofs.Lines.{lines-land}
+use Rattle.history.proofs.Invariant.{Invariant}
+use Rattle.history.proofs.Lines.{lines-invariant}
+use Rattle.bits.specs.Bits.{bitOf}
+use Rattle.bits.specs.Below.{countBelow}
+use Rattle.bits.proofs.BitLaws.{bit-beyond}
 
 -- nothing waits in a fresh keeper
 none-waits : (n : ℕ) → countBelow n (bitOf 0) ≡ 0
@@ -28,9 +32,9 @@ none-waits zero = refl
 none-waits (suc n) = rw (none-waits n, bit-beyond 0 0 n (omega arith) (omega arith))
 
 -- The log begins with what a fresh keeper holds, and there is no course.
-start-lands : Lands logStart fresh noCourse
+start-invariant : Invariant logStart fresh noCourse
 unfolding logStart fresh
-start-lands =
+start-invariant =
     record {
       taken = 0;
       kept = 0;
@@ -42,17 +46,17 @@ start-lands =
             unstarted = λ e. refl;
             sum = omega (arith, none-waits 16);
             follows =
-                record { within = λ m s. absurd s; calm = λ m s. absurd s; reached = λ r s. absurd (clash _ s fresh-not-started) };
+                record { within = λ m s. absurd s; no-conflict = λ m s. absurd s; reached = λ r s. absurd (clash s fresh-not-started) };
           };
     }
 
-module _ (l : Log) (k : Keeper) (stands : ℤ → Type 0) (h : Lands l k stands) where
+module _ (l : Log) (k : Keeper) (stands : ℤ → Type 0) (h : Invariant l k stands) where
   -- A keeper is started exactly if it counts as started.
   truly-started : k .started ≡ countsAsStarted k
   unfolding fresh
   truly-started =
       by-test (countsAsStarted k)
-      (λ t. counts k t .started ∙ sym t)
+      (λ t. started-read k t .started ∙ sym t)
       (λ t. ap (λ (x : Keeper). x .started) (h .holds .unstarted t) ∙ sym t)
 
   is-log : IsTheLog k l
@@ -88,17 +92,17 @@ module _ (l : Log) (k : Keeper) (stands : ℤ → Type 0) (h : Lands l k stands)
   equal-under-im : k .started ≡ true → k .rule ≡ Im → ((m : ℤ) → Holds (k .edges) m ↔ stands m) ↔ (k .conflicts ≡ 0)
   equal-under-im on im =
       let before : countsAsStarted k ≡ true = sym truly-started ∙ on in
-      let c : Counts k = counts k before in
+      let order = within-read (k .edges) (started-read k before .edges) .order in
       let f = h .holds .follows in
       let at-lower : Holds (k .edges) (k .edges .lower) = omega ints in
-      (λ equal. f .calm (k .edges .lower) (equal (k .edges .lower) .0 at-lower), λ none m. (f .reached im before none m, f .within m))
+      (λ equal. f .no-conflict (k .edges .lower) (equal (k .edges .lower) .0 at-lower), λ none m. (f .reached im before none m, f .within m))
 
 pub demand-3 : (inputs : List Input) → Demand3 inputs
 demand-3 inputs =
     let l = logAfter logStart inputs in
     let k = keeperThrough fresh inputs in
     let stands = coursesAfter logStart noCourse inputs in
-    let h = lines-land logStart fresh noCourse start-lands inputs in
+    let h = lines-invariant logStart fresh noCourse start-invariant inputs in
     record {
       is-the-log = is-log l k stands h;
       sum = sums-up l k stands h;
@@ -109,7 +113,7 @@ demand-3 inputs =
 -- What a list of lines leaves: the sizes of the machine's fields, and a fresh keeper as long as none counts as started.
 pub through-kept : (inputs : List Input) → let k = keeperThrough fresh inputs in Sized k × (countsAsStarted k ≡ false → k ≡ fresh)
 through-kept inputs =
-    let h = lines-land logStart fresh noCourse start-lands inputs .holds in
+    let h = lines-invariant logStart fresh noCourse start-invariant inputs .holds in
     (h .sized, h .unstarted)
 
 pub through-more : (k : Keeper) (inputs : List Input) (i : Input)

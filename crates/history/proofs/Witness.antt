@@ -3,23 +3,27 @@
 use mathlib.Core.Path.{_≡_, refl}
 use lib.IntN.{pos}
 use lib.Signed.{leZ-yes}
+use Rattle.bits.specs.Below.{countBelow, updated}
 use Rattle.text.specs.Words.{startsWith, wordAt}
 use Rattle.numeral.specs.Reading.{run, valueFrom, wellFormed, numberIn, numberAt, plain, negated, signedFrom, signedAt}
-use Rattle.moment.specs.Moment.{inRange, largerOf, smallerOf, shareOne}
-use Rattle.command.specs.Limits.{boardWithin, claimWithin, ticksWithin, tagWithin, edgesWithin, limited}
-use Rattle.reader.specs.Reading.{ruleAt, endAt, readParts, parseAs, parse, shapedFrom, readingOf}
-use Rattle.rules.specs.Rules.{widened, bracket, conflicting, narrowed, noWider, adopted, bothInRange}
-use Rattle.keeper.specs.State.{put, countBelow}
-use Rattle.keeper.specs.Refusals.{first, replyBracket, replyConflicts, adopts, causes, refusal}
-use Rattle.history.specs.Log.{logStart, logStarted, logAsked, logEnded, logReplied, logMoved, accepting, logged, logAfter}
+use Rattle.moment.specs.Moment.{inRange, largerOf, smallerOf}
+use Rattle.moment.specs.Intervals.{shareOne, edgesWithin, bothInRange}
+use Rattle.rules.specs.Rules.{widened, bracket, conflicting, narrowed, outward, noWider, adopted}
+use Rattle.rules.specs.Verdict.{judgedBy, judged, leaves}
+use Rattle.command.specs.Limits.{boardWithin, claimWithin, ticksWithin, tagWithin, limited}
+use Rattle.command.specs.Causes.{first, ownCauses}
+use Rattle.shapes.specs.Shapes.{ruleAt, endAt, readParts, shapedFrom}
+use Rattle.reader.specs.Reading.{parseAs, parse, readingOf}
+use Rattle.keeper.specs.Refusals.{replyBracket, replyVerdict, keeperCauses, causes, refusal}
+use Rattle.history.specs.Log.{logStart, logStarted, stateWith, logAsked, logEnded, logReplied, logAccepted, accepting, logged, logAfter}
 use Rattle.history.specs.Course.{noCourse, coursesAfter, eventOf}
 use Rattle.history.specs.Witness.{keptRun, allRun}
 
 pub counted : let l = logAfter logStart allRun in (l .taken ≡ 1) × (l .kept ≡ 1) × (l .state .conflicts ≡ 1) × (l .dropped ≡ 1) × (l .state .requests ≡ 4)
-unfolding startsWith wordAt run valueFrom wellFormed numberIn numberAt plain negated signedFrom signedAt inRange largerOf smallerOf shareOne boardWithin claimWithin ticksWithin tagWithin edgesWithin limited ruleAt endAt readParts parseAs parse shapedFrom readingOf widened bracket conflicting narrowed noWider adopted bothInRange countBelow first replyBracket replyConflicts adopts causes refusal put logStart logStarted logAsked logEnded logReplied logMoved accepting logged logAfter eventOf
+unfolding startsWith wordAt run valueFrom wellFormed numberIn numberAt plain negated signedFrom signedAt inRange largerOf smallerOf shareOne boardWithin claimWithin ticksWithin tagWithin edgesWithin limited ruleAt endAt readParts parseAs parse shapedFrom readingOf widened bracket conflicting narrowed outward noWider adopted bothInRange judgedBy judged leaves countBelow first ownCauses replyBracket replyVerdict keeperCauses causes refusal updated logStart logStarted stateWith logAsked logEnded logReplied logAccepted accepting logged logAfter eventOf
 counted = (refl, refl, refl, refl, refl)
 
 -- 60 lies from 0 through 100 and in the bracket 50 through 150 of the taken reply, and not in that of the kept one
 pub kept-stays : coursesAfter logStart noCourse keptRun (pos 60)
-unfolding startsWith wordAt run valueFrom wellFormed numberIn numberAt plain negated signedFrom signedAt inRange largerOf smallerOf shareOne boardWithin claimWithin ticksWithin tagWithin edgesWithin limited ruleAt endAt readParts parseAs parse shapedFrom readingOf widened bracket conflicting narrowed noWider adopted bothInRange countBelow first replyBracket replyConflicts adopts causes refusal put logStart logStarted logAsked logEnded logReplied logMoved accepting logged logAfter eventOf
+unfolding startsWith wordAt run valueFrom wellFormed numberIn numberAt plain negated signedFrom signedAt inRange largerOf smallerOf shareOne boardWithin claimWithin ticksWithin tagWithin edgesWithin limited ruleAt endAt readParts parseAs parse shapedFrom readingOf widened bracket conflicting narrowed outward noWider adopted bothInRange judgedBy judged leaves countBelow first ownCauses replyBracket replyVerdict keeperCauses causes refusal updated logStart logStarted stateWith logAsked logEnded logReplied logAccepted accepting logged logAfter eventOf
 kept-stays = (record { from = leZ-yes tt; through = leZ-yes tt }, record { from = leZ-yes tt; through = leZ-yes tt })

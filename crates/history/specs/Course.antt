@@ -1,18 +1,17 @@
 -- Courses: document 01, 'A course'. The set of the moments at which some course stands is a predicate on moments.
 use mathlib.Core.Path.{_≡_}
-use mathlib.Core.Bool.{Bool, true, false}
 use mathlib.Core.List.{List, [], _∷_}
 use Prim.Native.Nat.{ℕ, _*_, _≤_}
 use lib.IntN.{ℤ, pos, _+ℤ_}
-use Rattle.text.specs.Words.{choose}
-use Rattle.moment.specs.Moment.{shortest, longest, Holds}
+use Rattle.moment.specs.Moment.{shortest, longest}
+use Rattle.moment.specs.Intervals.{Holds}
 use Rattle.moment.specs.declared.Interval.{Interval}
-use Rattle.command.specs.declared.Rule.{Rule}
-use Rattle.command.specs.declared.Rule.the-variants.{Im, Mm}
+use Rattle.rules.specs.declared.Finding.{Finding}
+use Rattle.rules.specs.declared.Finding.the-variants.{Conflict, Taken, Kept}
 use Rattle.command.specs.declared.Command.{Command}
 use Rattle.command.specs.declared.Command.the-variants as C
 use Rattle.keeper.specs.State.{State}
-use Rattle.keeper.specs.Refusals.{replyBracket, replyConflicts, adopts}
+use Rattle.keeper.specs.Refusals.{replyBracket, replyVerdict}
 use Rattle.history.specs.Log.{Input, Log, Accepting, accepts, refuses, accepting, logged}
 
 -- What a line is to a course: its start, a pass that takes between two spans, a reply's bracket that it must lie in, or nothing.
@@ -23,19 +22,16 @@ pub data Event : Type 0 where
   stayed : Event
 
 -- 'At a reply that the log counts as taken or conflict it stays and must lie in that reply's bracket'; at a kept one it just stays.
-abbrev pub repliedEvent : Rule → Bool → Interval → Event
-repliedEvent Im adopts b = met b
-repliedEvent Mm true b = met b
-repliedEvent Mm false b = stayed
+abbrev pub repliedEvent : Finding → Interval → Event
+repliedEvent Conflict b = met b
+repliedEvent Taken b = met b
+repliedEvent Kept b = stayed
 
 abbrev pub commandEvent : State → Command → Event
 commandEvent s (C.Start board rule claim edges) = began edges
 commandEvent s (C.Pass ticks) = passed (ticks * shortest (s .claim)) (ticks * longest (s .claim))
 commandEvent s (C.Request peer) = stayed
-commandEvent s (C.Reply peer tag reply) =
-    choose (replyConflicts s peer reply)
-    (λ _. met (replyBracket s peer reply))
-    (λ _. repliedEvent (s .rule) (adopts s peer reply) (replyBracket s peer reply))
+commandEvent s (C.Reply peer tag reply) = repliedEvent (replyVerdict s peer reply .finding) (replyBracket s peer reply)
 commandEvent s (C.Drop peer) = stayed
 commandEvent s C.Read = stayed
 commandEvent s C.Waiting = stayed

@@ -6,13 +6,15 @@ use mathlib.Core.Logic.{_↔_}
 use Prim.Native.Nat.{ℕ, _+_, _<_}
 use lib.IntN.{ℤ}
 use lib.ListN.{getD}
-use Rattle.moment.specs.Moment.{Holds}
-use Rattle.command.specs.declared.Rule.the-variants.{Im, Mm}
-use Rattle.keeper.specs.State.{bitOf, countBelow, countsAsStarted, fresh}
+use Rattle.moment.specs.Intervals.{Holds}
+use Rattle.rules.specs.declared.Rule.the-variants.{Im, Mm}
+use Rattle.keeper.specs.State.{countsAsStarted, fresh}
 use Rattle.keeper.specs.declared.Keeper.{Keeper}
 use Rattle.line.specs.Call.{keeperAfter}
 use Rattle.history.specs.Log.{Input, Log, logStart, logAfter}
 use Rattle.history.specs.Course.{noCourse, coursesAfter}
+use Rattle.bits.specs.Bits.{bitOf}
+use Rattle.bits.specs.Below.{countBelow}
 
 -- 'It gets the keeper that the line before it returned or left, the first line a fresh one.'
 unfoldable pub keeperThrough : Keeper → List Input → Keeper

@@ -1,23 +1,28 @@
 -- The log: document 01, 'The log'. It 'is worked from that list alone and reads nothing from the keeper'.
-use mathlib.Core.Bool.{true, false}
+use mathlib.Core.Bool.{Bool, true, false}
 use mathlib.Core.List.{List, [], _∷_}
 use Prim.Native.Nat.{ℕ, _+_}
 use lib.Dec.{ltb, eqb}
 use lib.IntN.{pos}
-use Rattle.text.specs.Words.{choose}
+use Rattle.bits.specs.Choice.{choose}
+use Rattle.bits.specs.Below.{one, updated}
 use Rattle.moment.specs.declared.Interval.{Interval}
-use Rattle.command.specs.Edges.{interval}
-use Rattle.command.specs.declared.Rule.{Rule}
-use Rattle.command.specs.declared.Rule.the-variants.{Im, Mm}
+use Rattle.moment.specs.Intervals.{interval}
+use Rattle.rules.specs.Rules.{widened}
+use Rattle.rules.specs.Verdict.{isConflict}
+use Rattle.rules.specs.declared.Rule.{Rule}
+use Rattle.rules.specs.declared.Rule.the-variants.{Im}
+use Rattle.rules.specs.declared.Finding.{Finding}
+use Rattle.rules.specs.declared.Finding.the-variants.{Conflict, Taken, Kept}
+use Rattle.rules.specs.declared.Verdict.{Verdict}
 use Rattle.command.specs.declared.Command.{Command}
 use Rattle.command.specs.declared.Command.the-variants as C
 use Rattle.command.specs.declared.Reading.{Reading}
 use Rattle.command.specs.declared.Reading.the-variants.{Accepted, NoShape, OutsideLimits}
 use Rattle.reader.specs.Reading.{readingOf}
-use Rattle.rules.specs.Rules.{widened, narrowed, adopted}
-use Rattle.keeper.specs.State.{State, put}
-use Rattle.keeper.specs.Refusals.{refusal, waited, replyBracket, replyConflicts, adopts}
-use Rattle.line.specs.Call.{leastOutput}
+use Rattle.keeper.specs.State.{State}
+use Rattle.keeper.specs.Refusals.{refusal, replyVerdict}
+use Rattle.answers.specs.Answers.{leastOutput}
 
 -- 'A line in the list may have any bytes and comes with the length of its lent output.'
 pub record Input : Type 0 where
@@ -71,101 +76,71 @@ logStarted s board rule claim edges =
       sentAt = s .sentAt;
     }
 
--- 'pass of n: the lower edge gains n shortest ticks, the upper n longest, the ticks n'
-unfoldable pub logPassed : State → ℕ → State
-logPassed s n =
-    record {
-      started = s .started;
-      board = s .board;
-      rule = s .rule;
-      claim = s .claim;
-      edges = widened (s .claim) n (s .edges);
-      ticks = s .ticks + n;
-      requests = s .requests;
-      conflicts = s .conflicts;
-      waits = s .waits;
-      tag = s .tag;
-      sentAt = s .sentAt;
-    }
-
--- 'request: requests sent gains 1; the peer waits, with that number as its tag and the log's ticks as its tick count'
-unfoldable pub logAsked : State → ℕ → State
-logAsked s peer =
-    record {
-      started = s .started;
-      board = s .board;
-      rule = s .rule;
-      claim = s .claim;
-      edges = s .edges;
-      ticks = s .ticks;
-      requests = s .requests + 1;
-      conflicts = s .conflicts;
-      waits = put (s .waits) peer true;
-      tag = put (s .tag) peer (s .requests + 1);
-      sentAt = put (s .sentAt) peer (s .ticks);
-    }
-
--- 'The peer then has nothing waiting and holds 0 for both', with the edges and the conflict count that a reply or a drop leaves
-unfoldable pub logEnded : State → ℕ → Interval → ℕ → State
-logEnded s peer edges conflicts =
+-- The state with what commands change after the start: edges, ticks, requests, conflicts, which peers wait, their tags, and their tick counts.
+unfoldable pub stateWith : State → Interval → ℕ → ℕ → ℕ → (ℕ → Bool) → (ℕ → ℕ) → (ℕ → ℕ) → State
+stateWith s edges ticks requests conflicts waits tag sentAt =
     record {
       started = s .started;
       board = s .board;
       rule = s .rule;
       claim = s .claim;
       edges = edges;
-      ticks = s .ticks;
-      requests = s .requests;
+      ticks = ticks;
+      requests = requests;
       conflicts = conflicts;
-      waits = put (s .waits) peer false;
-      tag = put (s .tag) peer 0;
-      sentAt = put (s .sentAt) peer 0;
+      waits = waits;
+      tag = tag;
+      sentAt = sentAt;
     }
 
--- A reply that does not conflict: 'the edges become what Reply gives for the log's rule, and taken or kept gains 1 by its word'.
-unfoldable pub logReplied : Rule → Log → ℕ → Interval → Log
-logReplied Im l peer reply =
-    let s = l .state in
-    record {
-      state = logEnded s peer (narrowed (replyBracket s peer reply) (s .edges)) (s .conflicts);
-      taken = l .taken + 1;
-      kept = l .kept;
-      dropped = l .dropped;
-    }
-logReplied Mm l peer reply =
-    let s = l .state in
-    choose (adopts s peer reply)
-    (λ _.
-    record {
-      state = logEnded s peer (adopted (s .claim) (waited s peer) reply) (s .conflicts);
-      taken = l .taken + 1;
-      kept = l .kept;
-      dropped = l .dropped;
-    })
-    (λ _. record { state = logEnded s peer (s .edges) (s .conflicts); taken = l .taken; kept = l .kept + 1; dropped = l .dropped })
+-- 'pass of n: the lower edge gains n shortest ticks, the upper n longest, the ticks n'
+unfoldable pub logPassed : State → ℕ → State
+logPassed s n =
+    stateWith s (widened (s .claim) n (s .edges)) (s .ticks + n) (s .requests) (s .conflicts) (s .waits) (s .tag) (s .sentAt)
+
+-- 'request: requests sent gains 1; the peer waits, with that number as its tag and the log's ticks as its tick count'
+unfoldable pub logAsked : State → ℕ → State
+logAsked s peer =
+    stateWith s (s .edges) (s .ticks) (s .requests + 1) (s .conflicts) (updated (s .waits) peer true)
+    (updated (s .tag) peer (s .requests + 1))
+    (updated (s .sentAt) peer (s .ticks))
+
+-- 'The peer then has nothing waiting and holds 0 for both', with the edges and the conflict count that a reply or a drop leaves
+unfoldable pub logEnded : State → ℕ → Interval → ℕ → State
+logEnded s peer edges conflicts =
+    stateWith s edges (s .ticks) (s .requests) conflicts (updated (s .waits) peer false) (updated (s .tag) peer 0)
+    (updated (s .sentAt) peer 0)
 
 -- the log with another state, and the same counts
 abbrev pub withState : Log → State → Log
 withState l s = record { state = s; taken = l .taken; kept = l .kept; dropped = l .dropped }
 
+-- 'reply: .. taken or kept gains 1 by its word': a conflict is in neither count
+abbrev pub logCounted : Finding → Log → State → Log
+logCounted Taken l s = record { state = s; taken = l .taken + 1; kept = l .kept; dropped = l .dropped }
+logCounted Kept l s = record { state = s; taken = l .taken; kept = l .kept + 1; dropped = l .dropped }
+logCounted Conflict l s = withState l s
+
+-- 'the edges become what Reply gives for the log's rule', and the conflict count gains 1 for a conflict
+unfoldable pub logReplied : Log → ℕ → Verdict → Log
+logReplied l peer v =
+    logCounted (v .finding) l (logEnded (l .state) peer (v .edges) (l .state .conflicts + one (isConflict (v .finding))))
+
 -- An accepted command.
-unfoldable pub logMoved : Log → Command → Log
-logMoved l (C.Start board rule claim edges) = withState l (logStarted (l .state) board rule claim edges)
-logMoved l (C.Pass ticks) = withState l (logPassed (l .state) ticks)
-logMoved l (C.Request peer) = withState l (logAsked (l .state) peer)
-logMoved l (C.Reply peer tag reply) =
-    choose (replyConflicts (l .state) peer reply)
-    (λ _. withState l (logEnded (l .state) peer (l .state .edges) (l .state .conflicts + 1)))
-    (λ _. logReplied (l .state .rule) l peer reply)
-logMoved l (C.Drop peer) =
+unfoldable pub logAccepted : Log → Command → Log
+logAccepted l (C.Start board rule claim edges) = withState l (logStarted (l .state) board rule claim edges)
+logAccepted l (C.Pass ticks) = withState l (logPassed (l .state) ticks)
+logAccepted l (C.Request peer) = withState l (logAsked (l .state) peer)
+logAccepted l (C.Reply peer tag reply) = logReplied l peer (replyVerdict (l .state) peer reply)
+logAccepted l (C.Drop peer) =
     record {
       state = logEnded (l .state) peer (l .state .edges) (l .state .conflicts);
       taken = l .taken;
       kept = l .kept;
       dropped = l .dropped + 1;
     }
-logMoved l C.Read = l
-logMoved l C.Waiting = l
+logAccepted l C.Read = l
+logAccepted l C.Waiting = l
 
 -- A line is accepted where no cause of a refusal holds: the output is large enough, the line is a command, and the causes that ask about the
 -- keeper do not hold 'on the log's own values'.
@@ -183,7 +158,7 @@ accepting s i = choose (ltb (i .room) leastOutput) (λ _. refuses) (λ _. accept
 
 -- 'If one holds, nothing in the log moves.'
 abbrev pub logBy : Log → Accepting → Log
-logBy l (accepts c) = logMoved l c
+logBy l (accepts c) = logAccepted l c
 logBy l refuses = l
 
 unfoldable pub logged : Log → Input → Log

@@ -7,14 +7,11 @@ use native.Mathlib.Omega.{arith}
 use borrow.Author.Tests.{eqb-true, leb-true}
 use lib.Dec.{eqb, leb}
 use lib.ListN.{length, getD, length-append}
+use Rattle.bits.proofs.Tests.{both}
 use Rattle.keeper.specs.declared.Keeper.{Keeper}
 use Rattle.image.specs.Bytes.{lowestFirst, eachLowestFirst}
 use Rattle.image.specs.Layout.{imageLength, version, readable, ownBytes, peerBytes, imageOf}
 use Rattle.image.proofs.StoreLaws.{length-each}
-
-both : (p q : Bool) → (p && q) ≡ true → (p ≡ true) × (q ≡ true)
-both true q e = (refl, e)
-both false q e = absurd (let k : _≡_ {A = ℕ} 0 1 = cc in omega arith)
 
 -- what an image that can be read has: the length, the version, and bytes for started and rule
 pub readable-parts : (l : List ℕ) → readable l ≡ true → (length l ≡ imageLength) × (getD l 0 0 ≡ version) × (getD l 1 0 ≤ 1) × (getD l 3 0 ≤ 1)

@@ -6,5 +6,5 @@ pub mod LayoutLaws
 pub mod StoreLaws
 pub mod RoundTrip
 pub mod ReadBack
-pub mod Kept
+pub mod StartedFits
 pub mod Worked

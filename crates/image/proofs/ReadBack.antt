@@ -81,7 +81,7 @@ marks l h =
     ∙ ap (λ (r : List ℕ). getD l 0 0 ∷ getD l 1 0 ∷ getD l 2 0 ∷ take 1 r) (drop-cons l 3 0 (omega arith))
 
 module _ (l : List ℕ) (long : length l ≡ imageLength) (first : getD l 0 0 ≡ version) (started : getD l 1 0 ≤ 1) (rule : getD l 3 0 ≤ 1) (h : AllBelow 256 l) where
-  edge-there : (at : ℕ) → at + 8 ≤ 232 → lowestFirst 8 (ofZ w64 (toZ w64 (number 8 at l))) ≡ part at 8 l
+  edge-there : (at : ℕ) → at + 8 ≤ imageLength → lowestFirst 8 (ofZ w64 (toZ w64 (number 8 at l))) ≡ part at 8 l
   edge-there at room =
       let fits : Fits w64 (number 8 at l) = record { fits = number-below 8 at l h } in
       ap (lowestFirst 8) (ofZ-toZ fits) ∙ lowest-back 8 at l (omega (arith, long)) h
@@ -94,7 +94,7 @@ module _ (l : List ℕ) (long : length l ≡ imageLength) (first : getD l 0 0 �
   join : (at a b : ℕ) {s t : List ℕ} → s ≡ part at a l → t ≡ part (at + a) b l → s ++ t ≡ part at (a + b) l
   join at a b {s} {t} e f = ap (λ (x : List ℕ). x ++ t) e ∙ ap (λ (x : List ℕ). part at a l ++ x) f ∙ glue at a b l
 
-  number-there : (w at : ℕ) → at + w ≤ 232 → lowestFirst w (number w at l) ≡ part at w l
+  number-there : (w at : ℕ) → at + w ≤ imageLength → lowestFirst w (number w at l) ≡ part at w l
   number-there w at room = lowest-back w at l (omega (arith, long)) h
 
   own : ownBytes (keeperAt l) ≡ part 0 40 l
@@ -112,7 +112,7 @@ module _ (l : List ℕ) (long : length l ≡ imageLength) (first : getD l 0 0 �
 
   whole : imageOf (keeperAt l) ≡ l
   unfolding imageOf part
-  whole = join 0 40 192 own peers ∙ take-all 232 l (omega (arith, long))
+  whole = join 0 40 192 own peers ∙ take-all imageLength l (omega (arith, long))
 
 -- Every image that can be read is the image of what is read.
 pub read-is-image : (l : List ℕ) → AllBelow 256 l → readable l ≡ true → imageOf (keeperIn l) ≡ l

@@ -12,8 +12,8 @@ use lib.ListN.{length, getD}
 use mir.Syntax.{w64}
 use mir.Val.{SFits, ofZ, toZ}
 use mir.Facts.{fits-ofZ, toZ-ofZ}
-use Rattle.command.specs.declared.Rule.{Rule}
-use Rattle.command.specs.declared.Rule.the-variants.{Im, Mm}
+use Rattle.rules.specs.declared.Rule.{Rule}
+use Rattle.rules.specs.declared.Rule.the-variants.{Im, Mm}
 use Rattle.keeper.specs.declared.Keeper.{Keeper}
 use Rattle.image.specs.Bytes.{number, numbers, lowestFirst, eachLowestFirst}
 use Rattle.image.specs.Layout.{flag, ruleByte, ownBytes, peerBytes, imageOf, ruleOf, readable, keeperAt, keeperIn, AllBelow, Fitting}

@@ -4,8 +4,8 @@ use mathlib.Core.List.{List, [], _∷_, _++_}
 use Prim.Native.Nat.{ℕ}
 use lib.IntN.{pos, negsuc}
 use lib.ListN.{replicate}
-use Rattle.command.specs.Edges.{interval}
-use Rattle.command.specs.declared.Rule.the-variants.{Mm}
+use Rattle.moment.specs.Intervals.{interval}
+use Rattle.rules.specs.declared.Rule.the-variants.{Mm}
 use Rattle.keeper.specs.declared.Keeper.{Keeper}
 
 -- Edges -5 and 2; peers 4 and 15 wait, with tags 258 and 7 since ticks 10 and 4294967297.

@@ -11,11 +11,11 @@ use lib.Dec.{eqb, leb}
 use lib.ListN.{length, getD}
 use mir.Syntax.{w64}
 use mir.Val.{SFits, ofZ, toZ}
-use Rattle.text.specs.Words.{choose}
+use Rattle.bits.specs.Choice.{choose}
 use Rattle.moment.specs.declared.Interval.{Interval}
-use Rattle.command.specs.Edges.{interval}
-use Rattle.command.specs.declared.Rule.{Rule}
-use Rattle.command.specs.declared.Rule.the-variants.{Im, Mm}
+use Rattle.moment.specs.Intervals.{interval}
+use Rattle.rules.specs.declared.Rule.{Rule}
+use Rattle.rules.specs.declared.Rule.the-variants.{Im, Mm}
 use Rattle.keeper.specs.State.{fresh}
 use Rattle.keeper.specs.declared.Keeper.{Keeper}
 use Rattle.image.specs.Bytes.{number, numbers, lowestFirst, eachLowestFirst}

@@ -5,15 +5,15 @@ use crate::bytes::load_4;
 use crate::bytes::load_8;
 use crate::bytes::signed_of;
 use crate::is_image;
-use command::Rule;
 use keeper::Keeper;
 use moment::Interval;
+use rules::Rule;
 ghost use mathlib.Core.Path.{_≡_};
 ghost use mathlib.Core.Bool.{true};
 ghost use Prim.Native.Nat.{_+_, _≤_};
 ghost use lib.ListN.{length};
 ghost use Rattle.image.specs.Bytes.{numbers};
-ghost use Rattle.image.specs.Layout.{keeperIn, keeperAt, readable, ruleOf};
+ghost use Rattle.image.specs.Layout.{imageLength, keeperIn, keeperAt, readable, ruleOf};
 
 // The sixteen tags from a place on.
 fn load_tags(image: &[u8], at: usize) -> [u32; 16]
@@ -67,7 +67,7 @@ fn is_readable(image: &[u8]) -> bool
 
 // What stands in an image of the right length.
 fn load_all(image: &[u8]) -> Keeper
-    requires { ⌜ length (now image) ≡ 232 ⌝ }
+    requires { ⌜ length (now image) ≡ imageLength ⌝ }
     ensures { λ r. ⌜ r ≡ keeperAt (now (image .entry)) ⌝ }
 {
     Keeper {

@@ -5,26 +5,16 @@ use crate::bytes::store_2;
 use crate::bytes::store_4;
 use crate::bytes::store_8;
 use crate::is_image;
-use command::Rule;
 use keeper::Keeper;
 use moment::Interval;
+use rules::Rule;
 ghost use mathlib.Core.Path.{_≡_};
 ghost use Prim.Native.Nat.{_+_, _≤_};
 ghost use lib.Dec.{eqb};
 ghost use lib.ListN.{length};
-ghost use Rattle.text.specs.Words.{choose};
+ghost use Rattle.bits.specs.Choice.{choose};
 ghost use Rattle.image.specs.Bytes.{eachLowestFirst, stored};
-ghost use Rattle.image.specs.Layout.{
-  flag,
-  ruleByte,
-  markBytes,
-  headBytes,
-  edgeBytes,
-  countBytes,
-  ownBytes,
-  peerBytes,
-  imageAfter,
-};
+ghost use Rattle.image.specs.Layout.{imageLength, flag, ruleByte, markBytes, headBytes, edgeBytes, countBytes, ownBytes, peerBytes, imageAfter};
 
 // The sixteen tags from a place on.
 fn store_tags(image: &mut [u8], at: usize, tags: &[u32])
@@ -69,7 +59,7 @@ fn byte_of(rule: Rule) -> u8
 
 // Places 0 to 3: the version, and what is held in a byte.
 fn store_marks(image: &mut [u8], keeper: Keeper)
-    requires { ⌜ length (now image) ≡ 232 ⌝ }
+    requires { ⌜ length (now image) ≡ imageLength ⌝ }
     ensures { λ _. ⌜ now (image .exit) ≡ stored (now (image .entry)) 0 (markBytes keeper) ⌝ }
 {
     let rule = keeper.rule;
@@ -81,7 +71,7 @@ fn store_marks(image: &mut [u8], keeper: Keeper)
 
 // Places 0 to 7.
 fn store_head(image: &mut [u8], keeper: Keeper)
-    requires { ⌜ length (now image) ≡ 232 ⌝ }
+    requires { ⌜ length (now image) ≡ imageLength ⌝ }
     ensures { λ _. ⌜ now (image .exit) ≡ stored (now (image .entry)) 0 (headBytes keeper) ⌝ }
 {
     store_marks(image, keeper);
@@ -91,7 +81,7 @@ fn store_head(image: &mut [u8], keeper: Keeper)
 
 // Places 8 to 23.
 fn store_edges(image: &mut [u8], edges: Interval)
-    requires { ⌜ length (now image) ≡ 232 ⌝ }
+    requires { ⌜ length (now image) ≡ imageLength ⌝ }
     ensures { λ _. ⌜ now (image .exit) ≡ stored (now (image .entry)) 8 (edgeBytes edges) ⌝ }
 {
     store_8(image, 8, bits_of(edges.lower));
@@ -100,7 +90,7 @@ fn store_edges(image: &mut [u8], edges: Interval)
 
 // Places 24 to 39.
 fn store_numbers(image: &mut [u8], keeper: Keeper)
-    requires { ⌜ length (now image) ≡ 232 ⌝ }
+    requires { ⌜ length (now image) ≡ imageLength ⌝ }
     ensures { λ _. ⌜ now (image .exit) ≡ stored (now (image .entry)) 24 (countBytes keeper) ⌝ }
 {
     store_8(image, 24, keeper.ticks);
@@ -110,7 +100,7 @@ fn store_numbers(image: &mut [u8], keeper: Keeper)
 
 // Places 40 to 231.
 fn store_peers(image: &mut [u8], keeper: Keeper)
-    requires { ⌜ length (now image) ≡ 232 ⌝ }
+    requires { ⌜ length (now image) ≡ imageLength ⌝ }
     ensures { λ _. ⌜ now (image .exit) ≡ stored (now (image .entry)) 40 (peerBytes keeper) ⌝ }
 {
     store_tags(image, 40, &keeper.tags);
@@ -119,7 +109,7 @@ fn store_peers(image: &mut [u8], keeper: Keeper)
 
 // All but the peers.
 fn store_own(image: &mut [u8], keeper: Keeper)
-    requires { ⌜ length (now image) ≡ 232 ⌝ }
+    requires { ⌜ length (now image) ≡ imageLength ⌝ }
     ensures { λ _. ⌜ now (image .exit) ≡ stored (now (image .entry)) 0 (ownBytes keeper) ⌝ }
 {
     let edges = keeper.edges;

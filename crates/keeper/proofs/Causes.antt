@@ -1,98 +1,17 @@
 -- The law of the refusals: a command is refused with the number of its first cause that holds, and with none if no cause does.
-use mathlib.Core.Path.{_≡_, refl, sym, ap, _∙_}
-use mathlib.Core.Bool.{Bool, true, false, not, _&&_}
-use mathlib.Core.List.{List, [], _∷_, _++_}
-use Prim.Native.Nat.{ℕ, suc}
-use native.Mathlib.Omega.{arith}
-use borrow.Author.Tests.{eqb-false, not-true}
-use lib.Dec.{eqb}
+use mathlib.Core.Path.{_≡_, refl}
+use mathlib.Core.Bool.{true}
+use Prim.Native.Nat.{ℕ, suc, _≤_}
+use Rattle.command.specs.Causes.{ownCauses, mostNumber}
 use Rattle.command.specs.declared.Command.{Command}
 use Rattle.command.specs.declared.Command.the-variants as C
+use Rattle.command.proofs.CauseLaws.{NoneHolds, FirstCause, numbered, small, first-made, first-found, first-none, none-first, first-most}
 use Rattle.keeper.specs.State.{State}
-use Rattle.keeper.specs.Refusals.{Cause, first, causes, refusal}
-use Rattle.keeper.proofs.Bits.{both}
+use Rattle.keeper.specs.Refusals.{keeperCauses, causes, refusal}
 
--- no cause of the list holds
-abbrev pub NoneHolds : List Cause → Type 0
-NoneHolds [] = Unit {0}
-NoneHolds (c ∷ cs) = (c .holds ≡ false) × NoneHolds cs
-
--- the cause with the number n holds, and none before it does
-pub record FirstCause (cs : List Cause) (n : ℕ) : Type 0 where
-  pub before : List Cause
-  pub this : Cause
-  pub after : List Cause
-  pub parts : cs ≡ before ++ this ∷ after
-  pub number : this .number ≡ n
-  pub holds : this .holds ≡ true
-  pub earlier : NoneHolds before
-
--- ---- what `first` finds
-
-first-this : (c : Cause) (cs : List Cause) → c .holds ≡ true → first (c ∷ cs) ≡ c .number
-unfolding first
-first-this c cs e = rw e
-
-first-next : (c : Cause) (cs : List Cause) → c .holds ≡ false → first (c ∷ cs) ≡ first cs
-unfolding first
-first-next c cs e = rw e
-
--- past causes that do not hold
-first-past : (before rest : List Cause) → NoneHolds before → first (before ++ rest) ≡ first rest
-first-past [] rest none = refl
-first-past (c ∷ cs) rest none = first-next c (cs ++ rest) (none .0) ∙ first-past cs rest (none .1)
-
-pub first-made : {cs : List Cause} {n : ℕ} → FirstCause cs n → first cs ≡ n
-first-made f = ap first (f .parts) ∙ first-past (f .before) (f .this ∷ f .after) (f .earlier) ∙ first-this (f .this) (f .after) (f .holds) ∙ f .number
-
-pub first-found : (cs : List Cause) (n : ℕ) → first cs ≡ suc n → FirstCause cs (suc n)
-unfolding first
-first-found [] n e = absurd (omega arith)
-first-found (c ∷ cs) n e = go (c .holds) refl (first-found cs n)
-  where
-    go : (t : Bool) → c .holds ≡ t → (first cs ≡ suc n → FirstCause cs (suc n)) → FirstCause (c ∷ cs) (suc n)
-    go true h next =
-        record { before = []; this = c; after = cs; parts = refl; number = sym (first-this c cs h) ∙ e; holds = h; earlier = tt }
-    go false h next =
-        let f = next (sym (first-next c cs h) ∙ e) in
-        record {
-          before = c ∷ f .before;
-          this = f .this;
-          after = f .after;
-          parts = ap (λ (r : List Cause). c ∷ r) (f .parts);
-          number = f .number;
-          holds = f .holds;
-          earlier = (h, f .earlier);
-        }
-
--- ---- and when it finds none
-
--- no cause has the number 0
-unfoldable pub numbered : List Cause → Bool
-numbered [] = true
-numbered (c ∷ cs) = not (eqb (c .number) 0) && numbered cs
-
-pub first-none : (cs : List Cause) → numbered cs ≡ true → first cs ≡ 0 → NoneHolds cs
-unfolding numbered
-first-none [] d e = tt
-first-none (c ∷ cs) d e = go (c .holds) refl (first-none cs)
-  where
-    parts : (not (eqb (c .number) 0) ≡ true) × (numbered cs ≡ true)
-    parts = both (not (eqb (c .number) 0)) (numbered cs) d
-
-    go : (t : Bool) → c .holds ≡ t → (numbered cs ≡ true → first cs ≡ 0 → NoneHolds cs) → NoneHolds (c ∷ cs)
-    go true h next = absurd (eqb-false (c .number) 0 (not-true _ (parts .0)) (sym (first-this c cs h) ∙ e))
-    go false h next = (h, next (parts .1) (sym (first-next c cs h) ∙ e))
-
-pub none-first : (cs : List Cause) → NoneHolds cs → first cs ≡ 0
-unfolding first
-none-first [] none = refl
-none-first (c ∷ cs) none = first-next c cs (none .0) ∙ none-first cs (none .1)
-
--- ---- the causes of the commands
-
+-- every cause has a number of the table
 pub causes-numbered : (s : State) (c : Command) → numbered (causes s c) ≡ true
-unfolding causes numbered
+unfolding causes ownCauses keeperCauses numbered
 causes-numbered s (C.Start board rule claim edges) = refl
 causes-numbered s (C.Pass ticks) = refl
 causes-numbered s (C.Request peer) = refl
@@ -100,6 +19,16 @@ causes-numbered s (C.Reply peer tag edges) = refl
 causes-numbered s (C.Drop peer) = refl
 causes-numbered s C.Read = refl
 causes-numbered s C.Waiting = refl
+
+causes-small : (s : State) (c : Command) → small (causes s c) ≡ true
+unfolding causes ownCauses keeperCauses
+causes-small s (C.Start board rule claim edges) = refl
+causes-small s (C.Pass ticks) = refl
+causes-small s (C.Request peer) = refl
+causes-small s (C.Reply peer tag edges) = refl
+causes-small s (C.Drop peer) = refl
+causes-small s C.Read = refl
+causes-small s C.Waiting = refl
 
 pub refused-first : (s : State) (c : Command) (n : ℕ) → refusal s c ≡ suc n → FirstCause (causes s c) (suc n)
 unfolding refusal
@@ -116,3 +45,7 @@ accepted-none s c e = first-none (causes s c) (causes-numbered s c) e
 pub none-accepted : (s : State) (c : Command) → NoneHolds (causes s c) → refusal s c ≡ 0
 unfolding refusal
 none-accepted s c none = none-first (causes s c) none
+
+pub refusal-most : (s : State) (c : Command) → refusal s c ≤ mostNumber
+unfolding refusal
+refusal-most s c = first-most (causes s c) (causes-small s c)

@@ -1,17 +1,21 @@
 -- What each command does to a keeper, and what it answers: document 01, 'The calls'.
 use mathlib.Core.Bool.{true}
+use mathlib.Core.List.{List}
 use Prim.Native.Nat.{ℕ, _+_, _-_, _^_}
 use lib.Dec.{eqb}
 use lib.ListN.{set}
-use Rattle.text.specs.Words.{choose}
+use Rattle.bits.specs.Choice.{choose}
+use Rattle.bits.specs.Bits.{bitOf}
+use Rattle.bits.specs.Below.{one, countBelow}
 use Rattle.moment.specs.declared.Interval.{Interval}
-use Rattle.command.specs.declared.Rule.{Rule}
-use Rattle.command.specs.declared.Rule.the-variants.{Im, Mm}
+use Rattle.rules.specs.Rules.{widened, told, centre, errorOf}
+use Rattle.rules.specs.Verdict.{isConflict}
+use Rattle.rules.specs.declared.Rule.{Rule}
+use Rattle.rules.specs.declared.Verdict.{Verdict}
 use Rattle.command.specs.declared.Command.{Command}
 use Rattle.command.specs.declared.Command.the-variants as C
-use Rattle.rules.specs.Rules.{widened, narrowed, adopted, told, centre, errorOf}
-use Rattle.keeper.specs.State.{stateOf, bitOf, countBelow, fresh}
-use Rattle.keeper.specs.Refusals.{refusal, waited, replyBracket, replyConflicts, adopts}
+use Rattle.keeper.specs.State.{stateOf, fresh}
+use Rattle.keeper.specs.Refusals.{refusal, replyVerdict}
 use Rattle.keeper.specs.declared.Keeper.{Keeper}
 use Rattle.keeper.specs.declared.Outcome.{Outcome}
 use Rattle.keeper.specs.declared.Answer.{Answer}
@@ -38,9 +42,10 @@ begun board rule claim edges =
       «sent_at» = fresh .«sent_at»;
     }
 
--- The keeper with other edges and another tick count.
-unfoldable pub at : Keeper → Interval → ℕ → Keeper
-at k edges ticks =
+-- The keeper with what commands change after its start: edges, ticks, requests, conflicts, the mask of the waiting peers, their tags, and
+-- their tick counts. All else is as it was.
+unfoldable pub changed : Keeper → Interval → ℕ → ℕ → ℕ → ℕ → List ℕ → List ℕ → Keeper
+changed k edges ticks requests conflicts waiting tags sent =
     record {
       started = k .started;
       board = k .board;
@@ -48,70 +53,44 @@ at k edges ticks =
       claim = k .claim;
       edges = edges;
       ticks = ticks;
-      requests = k .requests;
-      conflicts = k .conflicts;
-      waiting = k .waiting;
-      tags = k .tags;
-      «sent_at» = k .«sent_at»;
+      requests = requests;
+      conflicts = conflicts;
+      waiting = waiting;
+      tags = tags;
+      «sent_at» = sent;
     }
+
+-- Pass: other edges and another tick count.
+unfoldable pub passedTo : Keeper → Interval → ℕ → Keeper
+unfolding changed
+passedTo k edges ticks = changed k edges ticks (k .requests) (k .conflicts) (k .waiting) (k .tags) (k .«sent_at»)
 
 -- 'Request gives the next tag, the number of requests sent so far counting this one.'
 unfoldable pub asked : Keeper → ℕ → Keeper
+unfolding changed
 asked k peer =
-    record {
-      started = k .started;
-      board = k .board;
-      rule = k .rule;
-      claim = k .claim;
-      edges = k .edges;
-      ticks = k .ticks;
-      requests = k .requests + 1;
-      conflicts = k .conflicts;
-      waiting = k .waiting + 2 ^ peer;
-      tags = set (k .tags) peer (k .requests + 1);
-      «sent_at» = set (k .«sent_at») peer (k .ticks);
-    }
+    changed k (k .edges) (k .ticks) (k .requests + 1) (k .conflicts) (k .waiting + 2 ^ peer)
+    (set (k .tags) peer (k .requests + 1))
+    (set (k .«sent_at») peer (k .ticks))
 
 -- 'Taken, kept and conflict all end the request': the peer has nothing waiting and holds 0 for both.
 unfoldable pub ended : Keeper → ℕ → Interval → ℕ → Keeper
+unfolding changed
 ended k peer edges conflicts =
-    record {
-      started = k .started;
-      board = k .board;
-      rule = k .rule;
-      claim = k .claim;
-      edges = edges;
-      ticks = k .ticks;
-      requests = k .requests;
-      conflicts = conflicts;
-      waiting = k .waiting - 2 ^ peer;
-      tags = set (k .tags) peer 0;
-      «sent_at» = set (k .«sent_at») peer 0;
-    }
+    changed k edges (k .ticks) (k .requests) conflicts (k .waiting - 2 ^ peer) (set (k .tags) peer 0) (set (k .«sent_at») peer 0)
 
--- What a reply that does not conflict does under each rule.
-unfoldable pub replied : Rule → Keeper → ℕ → Interval → Outcome
-replied Im k peer reply =
-    let edges = narrowed (replyBracket (stateOf k) peer reply) (k .edges) in
-    outcomeOf (A.Taken peer edges) (ended k peer edges (k .conflicts))
-replied Mm k peer reply =
-    choose (adopts (stateOf k) peer reply)
-    (λ _.
-    let edges = adopted (k .claim) (waited (stateOf k) peer) reply in
-    outcomeOf (A.Taken peer edges) (ended k peer edges (k .conflicts)))
-    (λ _. outcomeOf (A.Kept peer (k .edges)) (ended k peer (k .edges) (k .conflicts)))
+-- A reply, by its verdict: the edges become the verdict's, 'each conflict counts once', and the request is over.
+unfoldable pub replied : Keeper → ℕ → Verdict → Outcome
+replied k peer v = outcomeOf (A.Replied peer v) (ended k peer (v .edges) (k .conflicts + one (isConflict (v .finding))))
 
 -- What an accepted command does.
 unfoldable pub accepted : Keeper → Command → Outcome
 accepted k (C.Start board rule claim edges) = outcomeOf (A.Started board) (begun board rule claim edges)
 accepted k (C.Pass ticks) =
     let edges = widened (k .claim) ticks (k .edges) in
-    outcomeOf (A.At (k .ticks + ticks) edges) (at k edges (k .ticks + ticks))
+    outcomeOf (A.At (k .ticks + ticks) edges) (passedTo k edges (k .ticks + ticks))
 accepted k (C.Request peer) = outcomeOf (A.Sent peer (k .requests + 1)) (asked k peer)
-accepted k (C.Reply peer tag reply) =
-    choose (replyConflicts (stateOf k) peer reply)
-    (λ _. outcomeOf (A.Conflict peer (k .edges)) (ended k peer (k .edges) (k .conflicts + 1)))
-    (λ _. replied (k .rule) k peer reply)
+accepted k (C.Reply peer tag reply) = replied k peer (replyVerdict (stateOf k) peer reply)
 accepted k (C.Drop peer) = outcomeOf (A.Dropped peer) (ended k peer (k .edges) (k .conflicts))
 accepted k C.Read =
     let edges = told (k .claim) (k .edges) in
@@ -129,9 +108,7 @@ abbrev pub numberOf : Answer → ℕ
 numberOf (A.Started board) = 0
 numberOf (A.At ticks edges) = 0
 numberOf (A.Sent peer tag) = 0
-numberOf (A.Taken peer edges) = 0
-numberOf (A.Kept peer edges) = 0
-numberOf (A.Conflict peer edges) = 0
+numberOf (A.Replied peer verdict) = 0
 numberOf (A.Dropped peer) = 0
 numberOf (A.Time edges c e conflicts waiting) = 0
 numberOf A.Waiting = 0

@@ -2,7 +2,3 @@
 pub mod State
 pub mod Refusals
 pub mod Apply
-pub mod Lent
-pub mod Numbers
-pub mod Peers
-pub mod Settling

@@ -10,9 +10,7 @@ pub fn number_of(answer: Answer) -> u8
         Answer::Started(_) => 0,
         Answer::At(_, _) => 0,
         Answer::Sent(_, _) => 0,
-        Answer::Taken(_, _) => 0,
-        Answer::Kept(_, _) => 0,
-        Answer::Conflict(_, _) => 0,
+        Answer::Replied(_, _) => 0,
         Answer::Dropped(_) => 0,
         Answer::Time {
             edges: _,

@@ -2,35 +2,34 @@
 use crate::Answer;
 use crate::Keeper;
 use crate::Outcome;
-use crate::edges::centre_of;
-use crate::edges::error_of;
-use crate::edges::widen;
-use crate::peers::bit_of;
-use crate::peers::count_of;
-use crate::replies::settle;
-use crate::started::MOST_REQUESTS;
+use crate::refusals::drop_refusal;
+use crate::refusals::request_refusal;
+use crate::refusals::wait_refusal;
 use crate::started::MOST_TICKS;
 use crate::steps::asked_of;
 use crate::steps::begun_with;
 use crate::steps::ended_with;
-use crate::steps::moved_to;
+use crate::steps::passed_to;
 use crate::steps::refused;
+use crate::steps::replied_with;
+use bits::count_of;
 use command::Command;
-use command::Rule;
-use command::accept::Bounds;
-use command::limits::board_within;
-use command::limits::claim_within;
-use command::limits::edges_within;
-use command::limits::tag_within;
+use command::limits::start_within;
 use command::limits::ticks_within;
 use moment::Interval;
+use moment::intervals::Bounds;
+use rules::Rule;
+use rules::edges::bracket_of;
+use rules::edges::centre_of;
+use rules::edges::error_of;
+use rules::edges::outward_span;
+use rules::edges::widen;
+use rules::judge::judge;
+use rules::judge::leaves_the_range;
 ghost use mathlib.Core.Path.{_≡_};
 ghost use Rattle.command.specs.declared.Command.the-variants as C;
 ghost use Rattle.keeper.specs.State.{fresh};
 ghost use Rattle.keeper.specs.Apply.{apply};
-
-// The most ticks that a reply may come after its request.
-pub const LONGEST_WAIT: u64 = 3600000;
 
 impl Keeper {
     // A fresh keeper isn't started, its rule is im, nothing waits and every number is 0.
@@ -56,13 +55,7 @@ impl Keeper {
     pub fn start(self, board: u8, rule: Rule, claim: u16, edges: Interval) -> Outcome
         ensures { λ r. ⌜ r ≡ apply self (C.Start board rule claim edges) ⌝ }
     {
-        if !board_within(board as u64) {
-            return refused(self, 2);
-        }
-        if !claim_within(claim as u64) {
-            return refused(self, 2);
-        }
-        if !edges_within(edges) {
+        if !start_within(board, claim, edges) {
             return refused(self, 2);
         }
         if self.counts_as_started() {
@@ -93,7 +86,7 @@ impl Keeper {
         }
         Outcome {
             answer: Answer::At(total, edges),
-            keeper: moved_to(self, edges, total),
+            keeper: passed_to(self, edges, total),
         }
     }
 
@@ -101,20 +94,9 @@ impl Keeper {
     pub fn request(self, peer: u8) -> Outcome
         ensures { λ r. ⌜ r ≡ apply self (C.Request peer) ⌝ }
     {
-        if !board_within(peer as u64) {
-            return refused(self, 2);
-        }
-        if !self.counts_as_started() {
-            return refused(self, 3);
-        }
-        if peer == self.board {
-            return refused(self, 4);
-        }
-        if bit_of(self.waiting, peer) {
-            return refused(self, 6);
-        }
-        if MOST_REQUESTS <= self.requests {
-            return refused(self, 9);
+        let number = request_refusal(self, peer);
+        if number != 0 {
+            return refused(self, number);
         }
         Outcome {
             answer: Answer::Sent(peer, self.requests + 1),
@@ -126,52 +108,29 @@ impl Keeper {
     pub fn reply(self, peer: u8, tag: u32, edges: Interval) -> Outcome
         ensures { λ r. ⌜ r ≡ apply self (C.Reply peer tag edges) ⌝ }
     {
-        if !board_within(peer as u64) {
-            return refused(self, 2);
-        }
-        if !tag_within(tag as u64) {
-            return refused(self, 2);
-        }
-        if !edges_within(edges) {
-            return refused(self, 2);
-        }
-        if !self.counts_as_started() {
-            return refused(self, 3);
-        }
-        if peer == self.board {
-            return refused(self, 4);
-        }
-        if !bit_of(self.waiting, peer) {
-            return refused(self, 7);
-        }
-        // Each array is read from a local of its own: to read an element of `self`, all of `self` would be copied first.
-        let tags = self.tags;
-        if tag != tags[peer as usize] {
-            return refused(self, 7);
+        let number = wait_refusal(self, peer, tag, edges);
+        if number != 0 {
+            return refused(self, number);
         }
         let sent_at = self.sent_at;
-        let w = self.ticks - sent_at[peer as usize];
-        if LONGEST_WAIT < w {
-            return refused(self, 8);
+        let w = (self.ticks - sent_at[peer as usize]) as u32;
+        let bracket = bracket_of(self.claim, w, edges);
+        let span = outward_span(self.claim, w);
+        let rule = self.rule;
+        let verdict = judge(rule, bracket, span, edges, self.edges);
+        if leaves_the_range(verdict) {
+            return refused(self, 5);
         }
-        settle(self, peer, edges, w as u32)
+        replied_with(self, peer, verdict)
     }
 
     // Gives a request up: a late reply to it finds no request, or one with another tag.
     pub fn drop(self, peer: u8) -> Outcome
         ensures { λ r. ⌜ r ≡ apply self (C.Drop peer) ⌝ }
     {
-        if !board_within(peer as u64) {
-            return refused(self, 2);
-        }
-        if !self.counts_as_started() {
-            return refused(self, 3);
-        }
-        if peer == self.board {
-            return refused(self, 4);
-        }
-        if !bit_of(self.waiting, peer) {
-            return refused(self, 7);
+        let number = drop_refusal(self, peer);
+        if number != 0 {
+            return refused(self, number);
         }
         Outcome {
             answer: Answer::Dropped(peer),

@@ -1,13 +1,11 @@
 // The keeper of one board's time: document 01, 'Moments and ticks' and 'The calls'.
-use command::Rule;
 use moment::Interval;
+use rules::Rule;
+use rules::Verdict;
 
 pub mod answers;
 pub mod calls;
-mod edges;
-pub mod lent;
-mod peers;
-mod replies;
+mod refusals;
 mod started;
 mod steps;
 
@@ -33,9 +31,7 @@ pub enum Answer {
     Started(u8),
     At(u64, Interval),
     Sent(u8, u32),
-    Taken(u8, Interval),
-    Kept(u8, Interval),
-    Conflict(u8, Interval),
+    Replied(u8, Verdict),
     Dropped(u8),
     Time {
         edges: Interval,

@@ -2,13 +2,18 @@
 use crate::Answer;
 use crate::Keeper;
 use crate::Outcome;
-use command::Rule;
 use moment::Interval;
+use rules::Finding;
+use rules::Rule;
+use rules::Verdict;
 ghost use mathlib.Core.Path.{_≡_};
 ghost use mathlib.Core.Bool.{true, false};
-ghost use Prim.Native.Nat.{_+_, _≤_, _^_};
-ghost use Rattle.keeper.specs.State.{bitOf};
-ghost use Rattle.keeper.specs.Apply.{outcomeOf, begun, asked, at, ended};
+ghost use Prim.Native.Nat.{_+_, _≤_, _<_, _^_};
+ghost use Rattle.bits.specs.Bits.{bitOf};
+ghost use Rattle.bits.specs.Below.{one};
+ghost use Rattle.rules.specs.Verdict.{isConflict};
+ghost use Rattle.keeper.specs.State.{mostRequests};
+ghost use Rattle.keeper.specs.Apply.{outcomeOf, begun, passedTo, asked, ended, replied};
 ghost use Rattle.keeper.specs.declared.Answer.the-variants.{Refused};
 
 // A refusal: the keeper stays as it was.
@@ -52,7 +57,7 @@ fn bit(peer: u8) -> u16
 // an element in the keeper itself, all of it would be copied once more.
 pub(crate) fn asked_of(keeper: Keeper, peer: u8) -> Keeper
     requires { ⌜ peer ≤ 15 ⌝ }
-    requires { ⌜ keeper .requests ≤ 16777214 ⌝ }
+    requires { ⌜ keeper .requests < mostRequests ⌝ }
     requires { ⌜ bitOf (keeper .waiting) peer ≡ false ⌝ }
     ensures { λ r. ⌜ r ≡ asked keeper peer ⌝ }
 {
@@ -87,9 +92,36 @@ pub(crate) fn ended_with(keeper: Keeper, peer: u8, edges: Interval, conflicts: u
     next
 }
 
-// The keeper with its edges and ticks moved on.
-pub(crate) fn moved_to(keeper: Keeper, edges: Interval, ticks: u64) -> Keeper
-    ensures { λ r. ⌜ r ≡ at keeper edges ticks ⌝ }
+// The count, with one more for a conflict.
+fn conflicts_after(conflicts: u32, finding: Finding) -> u32
+    requires { ⌜ conflicts ≤ mostRequests ⌝ }
+    ensures { λ r. ⌜ r ≡ conflicts + one (isConflict finding) ⌝ }
+{
+    match finding {
+        Finding::Conflict => conflicts + 1,
+        Finding::Taken => conflicts,
+        Finding::Kept => conflicts,
+    }
+}
+
+// A reply that was found, by its verdict.
+pub(crate) fn replied_with(keeper: Keeper, peer: u8, verdict: Verdict) -> Outcome
+    requires { ⌜ peer ≤ 15 ⌝ }
+    requires { ⌜ bitOf (keeper .waiting) peer ≡ true ⌝ }
+    requires { ⌜ keeper .conflicts ≤ mostRequests ⌝ }
+    ensures { λ r. ⌜ r ≡ replied keeper peer verdict ⌝ }
+{
+    let finding = verdict.finding;
+    let conflicts = conflicts_after(keeper.conflicts, finding);
+    Outcome {
+        answer: Answer::Replied(peer, verdict),
+        keeper: ended_with(keeper, peer, verdict.edges, conflicts),
+    }
+}
+
+// The keeper with the edges and the tick count of a pass.
+pub(crate) fn passed_to(keeper: Keeper, edges: Interval, ticks: u64) -> Keeper
+    ensures { λ r. ⌜ r ≡ passedTo keeper edges ticks ⌝ }
 {
     let mut next = keeper;
     next.edges = edges;

@@ -1,5 +1,5 @@
--- The marked examples follow from the definitions; laws of the writes that make a line.
+-- The marked examples follow from the definitions; laws of what is written and of what is returned.
 pub mod Marked
-pub mod PutsLaws
-pub mod WaitersLaws
+pub mod WroteLaws
 pub mod ResponseLaws
+pub mod CallCauses

@@ -4,7 +4,6 @@ use mathlib.Core.Path.{_≡_, refl, ap}
 use mathlib.Core.Bool.{Bool, true, false}
 use mathlib.Core.List.{List, _∷_}
 use Prim.Native.Nat.{ℕ, _+_, _≤_}
-use native.Mathlib.Nat.{le-trans}
 use native.Mathlib.Omega.{arith}
 use borrow.Author.Tests.{ltb-true, ltb-false}
 use lib.Dec.{ltb}
@@ -12,15 +11,18 @@ use lib.ListN.{length, drop, length-append}
 use Rattle.command.specs.declared.Reading.{Reading}
 use Rattle.command.specs.declared.Reading.the-variants.{Accepted, NoShape, OutsideLimits}
 use Rattle.reader.specs.Reading.{readingOf}
-use Rattle.moment.proofs.Integers.{by-test}
+use Rattle.bits.proofs.Tests.{by-test}
 use Rattle.keeper.specs.State.{countsAsStarted, stateOf}
+use Rattle.command.specs.Causes.{mostNumber}
 use Rattle.keeper.specs.Apply.{numberOf}
 use Rattle.keeper.specs.declared.Keeper.{Keeper}
 use Rattle.keeper.specs.declared.Answer.{Answer}
 use Rattle.keeper.specs.declared.Answer.the-variants as A
 use Rattle.keeper.proofs.Listing.{listed-started}
-use Rattle.keeper.proofs.Returned.{apply-number, refusal-most, refused-keeps}
-use Rattle.line.specs.Call.{leastOutput, byReading, answered, numberAfter, keeperAfter, Wrote, Called}
+use Rattle.keeper.proofs.Returned.{apply-number, refused-keeps}
+use Rattle.keeper.proofs.Causes.{refusal-most}
+use Rattle.answers.specs.Answers.{leastOutput}
+use Rattle.line.specs.Call.{byReading, answered, numberAfter, keeperAfter, Wrote, Called}
 
 pub listed : (k : Keeper) (line : List ℕ) → answered k line .answer ≡ A.Waiting → countsAsStarted (answered k line .keeper) ≡ true
 unfolding answered
@@ -46,16 +48,15 @@ called-short {before = before} {n = n} c = by-room (ltb (length before) leastOut
 -- ---- the number returned
 
 module _ (k : Keeper) (line : List ℕ) where
-  read-most : (r : Reading) → numberOf (byReading r k .answer) ≤ 9
+  read-most : (r : Reading) → numberOf (byReading r k .answer) ≤ mostNumber
   read-most (Accepted c) = rw (apply-number k c) (refusal-most (stateOf k) c)
   read-most NoShape = omega arith
   read-most OutsideLimits = omega arith
 
-  -- no call returns a number above 10
-  pub number-most : (room : ℕ) → numberAfter k line room ≤ 10
+  -- no call returns a number above the table's greatest
+  pub number-most : (room : ℕ) → numberAfter k line room ≤ mostNumber
   unfolding numberAfter answered
-  number-most room =
-      by-test (ltb room leastOutput) (λ t. rw t (omega arith)) (λ t. rw t (le-trans (read-most (readingOf line)) (omega arith)))
+  number-most room = by-test (ltb room leastOutput) (λ t. rw t (omega arith)) (λ t. rw t (read-most (readingOf line)))
 
   read-keeps : (r : Reading) → (numberOf (byReading r k .answer) ≡ 0 → ⊥) → byReading r k .keeper ≡ k
   read-keeps (Accepted c) h = refused-keeps k c h

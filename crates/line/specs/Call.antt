@@ -1,30 +1,31 @@
 -- What a call with a line does: a keeper, a line of any bytes and a lent output of any length; back come the number, the keeper and the
 -- output. Document 01, 'Causes of a refusal': 'tried in the order 10, 1, 2, ..'.
 use mathlib.Core.Path.{_≡_}
-use mathlib.Core.List.{List, _∷_, _++_}
+use mathlib.Core.Bool.{Bool, true, false}
+use mathlib.Core.List.{List, [], _∷_, _++_}
 use Prim.Native.Nat.{ℕ, _+_, _<_, _≤_}
 use lib.Dec.{ltb}
 use lib.ListN.{length, drop}
-use Rattle.text.specs.Words.{choose}
+use Rattle.bits.specs.Choice.{choose}
+use Rattle.command.specs.Limits as R
 use Rattle.command.specs.declared.Reading.{Reading}
 use Rattle.command.specs.declared.Reading.the-variants.{Accepted, NoShape, OutsideLimits}
 use Rattle.reader.specs.Reading.{readingOf}
+use Rattle.command.specs.Causes.{Cause, cause}
+use Rattle.keeper.specs.State.{State, stateOf}
+use Rattle.keeper.specs.Refusals.{keeperCauses}
 use Rattle.keeper.specs.Apply.{outcomeOf, apply, numberOf}
 use Rattle.keeper.specs.declared.Keeper.{Keeper}
 use Rattle.keeper.specs.declared.Outcome.{Outcome}
 use Rattle.keeper.specs.declared.Answer.{Answer}
 use Rattle.keeper.specs.declared.Answer.the-variants as A
-use Rattle.line.specs.Answers.{IsLine}
+use Rattle.answers.specs.Answers.{leastOutput, IsLine}
 
--- 'lent output under 256 bytes'
-abbrev pub leastOutput : ℕ
-leastOutput = 256
-
--- What is answered to a line that was read.
+-- What is answered to a line that was read: a command does what it does, and what is none is refused with the number of its reading.
 abbrev pub byReading : Reading → Keeper → Outcome
 byReading (Accepted c) k = apply k c
-byReading NoShape k = outcomeOf (A.Refused 1) k
-byReading OutsideLimits k = outcomeOf (A.Refused 2) k
+byReading NoShape k = outcomeOf (A.Refused (R.numberOf NoShape)) k
+byReading OutsideLimits k = outcomeOf (A.Refused (R.numberOf OutsideLimits)) k
 
 unfoldable pub answered : Keeper → List ℕ → Outcome
 answered k line = byReading (readingOf line) k
@@ -35,6 +36,29 @@ numberAfter k line room = choose (ltb room leastOutput) (λ _. 10) (λ _. number
 
 unfoldable pub keeperAfter : Keeper → List ℕ → ℕ → Keeper
 keeperAfter k line room = choose (ltb room leastOutput) (λ _. k) (λ _. answered k line .keeper)
+
+-- 'The first cause that holds is given, tried in the order 10, 1, 2', and then those that look at the keeper.
+abbrev pub isNoShape : Reading → Bool
+isNoShape (Accepted c) = false
+isNoShape NoShape = true
+isNoShape OutsideLimits = false
+
+abbrev pub isOutside : Reading → Bool
+isOutside (Accepted c) = false
+isOutside NoShape = false
+isOutside OutsideLimits = true
+
+abbrev pub commandCauses : State → Reading → List Cause
+commandCauses s (Accepted c) = keeperCauses s c
+commandCauses s NoShape = []
+commandCauses s OutsideLimits = []
+
+unfoldable pub callCauses : Keeper → List ℕ → ℕ → List Cause
+callCauses k line room =
+    cause 10 (ltb room leastOutput)
+    ∷ cause 1 (isNoShape (readingOf line))
+    ∷ cause 2 (isOutside (readingOf line))
+    ∷ commandCauses (stateOf k) (readingOf line)
 
 -- An answer's line was written at the front of an output: 'each line written ends in LF' (byte 10), and 'output beyond the line written is never
 -- touched'. n is the length written, for which the least output has room.

@@ -7,7 +7,7 @@ use lib.ListN.{take}
 use Rattle.text.specs.Words.{bytes}
 use Rattle.keeper.specs.State.{fresh}
 use Rattle.keeper.specs.declared.Keeper.{Keeper}
-use Rattle.line.specs.Answers.{lineOf}
+use Rattle.answers.specs.Answers.{lineOf}
 use Rattle.line.specs.Call.{answered}
 
 pub record Example : Type 0 where

@@ -1,5 +1,5 @@
 // One call with a line: a keeper by value, a line of any bytes, and a lent output of any length.
-use crate::write::write_answer;
+use answers::put_answer;
 use command::Reading;
 use keeper::Answer;
 use keeper::Keeper;
@@ -7,11 +7,15 @@ use keeper::Outcome;
 use keeper::answers::number_of;
 use keeper::calls::apply_command;
 use reader::read_command;
-
-mod write;
-
+use text::output::put_bytes;
 ghost use mathlib.Core.Path.{_≡_};
-ghost use Rattle.line.specs.Call.{answered, Called};
+ghost use mathlib.Core.Bool.{true};
+ghost use Prim.Native.Nat.{_≤_};
+ghost use lib.ListN.{length};
+ghost use Rattle.keeper.specs.State.{countsAsStarted};
+ghost use Rattle.keeper.specs.declared.Answer.the-variants.{Waiting};
+ghost use Rattle.answers.specs.Answers.{leastOutput};
+ghost use Rattle.line.specs.Call.{answered, Wrote, Called};
 
 // The least output that a line's answer is written to.
 pub const LEAST_OUTPUT: usize = 256;
@@ -39,6 +43,15 @@ fn answer_to(keeper: Keeper, line: &[u8]) -> Outcome
             keeper,
         },
     }
+}
+
+// Writes the line of an answer and its LF at the front of the output, and gives the length written.
+fn write_answer(out: &mut [u8], answer: Answer, keeper: Keeper) -> usize
+    requires { ⌜ (leastOutput ≤ length (now out)) × (answer ≡ Waiting → countsAsStarted keeper ≡ true) ⌝ }
+    ensures { λ r. ⌜ Wrote answer keeper (now (out .entry)) (now (out .exit)) r ⌝ }
+{
+    let at = put_answer(out, 0, answer, keeper);
+    put_bytes(out, at, b"\n")
 }
 
 // Refusal 10 comes before anything else is looked at, and touches no byte.

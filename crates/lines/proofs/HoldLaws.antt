@@ -10,7 +10,7 @@ use lib.Dec.{leb}
 use lib.ListN.{length, take, drop, set, getD, length-take, length-drop, take-append-drop, drop-of-length-le}
 use lib.Seq.{take-all, take-nil, take-append-le, drop-append-le, drop-cons, take-suc, set-at, append-snoc, getD-append-add, getD-drop, length-take-le}
 use Rattle.lines.specs.Lines.{heldOf, Held}
-use Rattle.lines.proofs.LineLaws.{by-test}
+use Rattle.bits.proofs.Tests.{by-test}
 
 -- one byte more moved: it is read behind all that were written
 pub hold-more : (s : List ℕ) (from i : ℕ) → from + i < length s

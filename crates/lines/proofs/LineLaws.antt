@@ -10,11 +10,8 @@ use lib.Bits.{bitOr, or-add-and, and-le-l, and-le-r}
 use lib.Dec.{eqb}
 use lib.ListN.{length, take, drop, getD, length-drop, drop-of-length-le}
 use lib.Seq.{take-suc, take-all, drop-cons, drop-drop}
+use Rattle.bits.proofs.Tests.{by-test}
 use Rattle.lines.specs.Lines.{lf, breaks, lineLength, joined, Unbroken}
-
-pub by-test : {P : Type 0} (t : Bool) → (t ≡ true → P) → (t ≡ false → P) → P
-by-test true f g = f refl
-by-test false f g = g refl
 
 pub breaks-append : (a b : List ℕ) → breaks (a ++ b) ≡ breaks a + breaks b
 unfolding breaks

@@ -4,7 +4,7 @@ use mathlib.Core.List.{List, [], _∷_, _++_}
 use Prim.Native.Nat.{ℕ, suc, _+_, _≤_}
 use lib.Dec.{eqb}
 use lib.ListN.{length, take, drop}
-use Rattle.text.specs.Words.{choose}
+use Rattle.bits.specs.Choice.{choose}
 
 -- 'LF (byte 10)'
 abbrev pub lf : ℕ

@@ -14,6 +14,7 @@ use mir.Syntax.{w64}
 use mir.Val.{SFits, toZ, ofZ}
 use mir.Facts.{toZ-ofZ, toZ-pos}
 use borrow.Author.Tests.{leb-true, leb-false, ltb-true, ltb-false, le-leb, lt-leb, lt-ltb, le-ltb}
+use Rattle.bits.proofs.Tests.{by-test}
 use Rattle.moment.specs.Moment.{largerOf, smallerOf, floorHalf}
 
 -- what is above zero in an integer
@@ -116,11 +117,6 @@ fit-rule {z = negsuc n} h = omega arith
 
 -- The rules for `omega`: what it reads and makes of statements about integers.
 pub ruleset ints = (le-read, lt-read, eq-read, fit-read, leZ-true, leZ-false, ltZ-true, ltZ-false, le-make, lt-make, eq-make, fit-rule, make-leZ-true, make-leZ-false, make-ltZ-true, make-ltZ-false, arith)
-
--- whatever holds on either answer of a test holds
-pub by-test : {P : Type 0} (t : Bool) → (t ≡ true → P) → (t ≡ false → P) → P
-by-test true f g = f refl
-by-test false f g = g refl
 
 -- a difference of natural numbers, as an integer
 pub apart : (a b : ℕ) → up (subℕ a b) + b ≡ a + dn (subℕ a b)

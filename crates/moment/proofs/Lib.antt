@@ -1,3 +1,5 @@
--- What the proofs of `moment` share, and what it offers to other crates.
+-- Laws of integers for `omega`, and of intervals.
 pub mod Integers
-pub mod Intervals
+pub mod IntervalLaws
+pub mod BoundLaws
+pub mod Within

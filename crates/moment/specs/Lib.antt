@@ -1,2 +1,3 @@
 -- What the contracts of `moment` cite.
 pub mod Moment
+pub mod Intervals

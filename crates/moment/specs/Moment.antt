@@ -1,10 +1,9 @@
--- Moments, ticks and intervals of document 01, in the order of its section 'Moments and ticks'. A moment is an integer (ℤ): a whole
+-- Moments and ticks of document 01, in the order of its section 'Moments and ticks'. A moment is an integer (ℤ): a whole
 -- number of nanoseconds from the epoch. What the code holds as an i64 is such an integer here.
 use mathlib.Core.Bool.{Bool, true, false, _&&_}
 use Prim.Native.Nat.{ℕ, _+_, _-_, _/_}
 use lib.IntN.{ℤ, pos, negsuc, _+ℤ_}
-use lib.Signed.{leZ, _≤ℤ_}
-use Rattle.moment.specs.declared.Interval.{Interval}
+use lib.Signed.{leZ}
 use Rattle.moment.specs.declared.Moved.{Moved}
 use Rattle.moment.specs.declared.Moved.the-variants.{To, Outside}
 
@@ -46,23 +45,6 @@ largerOf a b = pickZ (leZ a b) b a
 unfoldable pub smallerOf : ℤ → ℤ → ℤ
 unfolding pickZ
 smallerOf a b = pickZ (leZ a b) a b
-
--- A moment lies in an interval if it lies from its lower through its upper edge.
-pub record Holds (i : Interval) (m : ℤ) : Type 0 where
-  pub from : i .lower ≤ℤ m
-  pub through : m ≤ℤ i .upper
-
--- 'One shared moment suffices': two intervals share a moment if some moment lies in both. An interval whose lower edge is above its
--- upper one holds no moment, so it shares none.
-pub record Share (a b : Interval) : Type 0 where
-  pub moment : ℤ
-  pub first : Holds a moment
-  pub second : Holds b moment
-
--- The test: the larger lower edge is at most the smaller upper one. `proofs/Intervals.antt` proves that it is true exactly if the two
--- share a moment.
-unfoldable pub shareOne : Interval → Interval → Bool
-shareOne a b = leZ (largerOf (a .lower) (b .lower)) (smallerOf (a .upper) (b .upper))
 
 -- 'the sum of the edges divided by 2, rounded toward minus infinity'
 unfoldable pub floorHalf : ℤ → ℤ

@@ -1,17 +1,10 @@
-// Moments, ticks and intervals: document 01, 'Moments and ticks'. Every function is total: it answers for all arguments.
+// Moments and ticks: document 01, 'Moments and ticks'. Every function is total: it answers for all arguments.
 ghost use mathlib.Core.Path.{_≡_};
 ghost use Prim.Native.Nat.{_*_};
 ghost use lib.IntN.{pos};
-ghost use Rattle.moment.specs.Moment.{
-  inRange,
-  shortest,
-  longest,
-  movedBy,
-  largerOf,
-  smallerOf,
-  shareOne,
-  floorHalf,
-};
+ghost use Rattle.moment.specs.Moment.{inRange, shortest, longest, movedBy, largerOf, smallerOf, floorHalf};
+
+pub mod intervals;
 
 // The range of moments, in nanoseconds from the epoch.
 pub const EARLIEST: i64 = -4000000000000000000;
@@ -81,13 +74,6 @@ pub fn smaller(a: i64, b: i64) -> i64
     ensures { λ r. ⌜ r ≡ smallerOf a b ⌝ }
 {
     if a <= b { a } else { b }
-}
-
-// Whether some moment lies in both.
-pub fn share_a_moment(a: Interval, b: Interval) -> bool
-    ensures { λ r. ⌜ r ≡ shareOne a b ⌝ }
-{
-    larger(a.lower, b.lower) <= smaller(a.upper, b.upper)
 }
 
 // Half of a sum of edges, rounded toward minus infinity: the shift copies the sign.

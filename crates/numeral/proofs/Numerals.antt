@@ -11,13 +11,14 @@ use borrow.Author.Tests.{ltb-true, ltb-false, leb-true, leb-false, not-true}
 use lib.Dec.{leb, ltb}
 use lib.ListN.{length, drop, getD, List·getD-append}
 use lib.Seq.{drop-drop}
-use Rattle.text.specs.Words.{choose, Stands}
+use Rattle.text.specs.Words.{Stands}
 use Rattle.numeral.specs.Digits.{digits}
 use Rattle.numeral.specs.Numerals.{Numeral, AllDigits, none, more, Described}
 use Rattle.numeral.specs.Reading.{isDigit, numeralEnds, run, valueFrom, wellFormed, numberIn, numberAt}
 use Rattle.numeral.specs.declared.read.Number.the-variants as N
 use Rattle.numeral.proofs.Digits.{digits-one, digits-more, digits-some}
 use Rattle.numeral.proofs.Reading.{is-digit, digit-bounds, formed-one, formed-more, formed-not-empty, formed-not-long, formed-not-zero}
+use Rattle.bits.specs.Choice.{choose}
 
 -- ---- the digits of a number, by their last one
 

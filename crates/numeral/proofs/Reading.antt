@@ -10,7 +10,7 @@ use borrow.Author.Tests.{le-leb, lt-leb, leb-true, eq-eqb, ne-eqb}
 use lib.Dec.{leb}
 use lib.ListN.{length, drop, getD, drop-of-length-le, length-drop}
 use lib.Seq.{drop-cons, drop-drop, getD-drop}
-use Rattle.text.specs.Words.{choose}
+use Rattle.bits.specs.Choice.{choose}
 use Rattle.numeral.specs.Reading.{isDigit, digitIn, run, valueFrom, wellFormed, numberIn, numberAt}
 use Rattle.numeral.specs.declared.read.Digit.the-variants as D
 use Rattle.numeral.specs.declared.read.Number.the-variants as N

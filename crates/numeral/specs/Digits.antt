@@ -3,7 +3,7 @@ use mathlib.Core.List.{List, [], _∷_, _++_}
 use Prim.Native.Nat.{ℕ, zero, suc, _+_, _/_, _%_}
 use lib.Dec.{ltb}
 use lib.IntN.{ℤ, pos, negsuc}
-use Rattle.text.specs.Words.{choose}
+use Rattle.bits.specs.Choice.{choose}
 
 -- The digits of n in base ten, the first one first, as the bytes '0' (48) to '9' (57), if n has at most `most` digits.
 unfoldable pub digitsIn : ℕ → ℕ → List ℕ

@@ -6,7 +6,7 @@ use Prim.Native.Nat.{ℕ, _+_, _-_, _*_}
 use lib.Dec.{leb, eqb}
 use lib.ListN.{length, drop}
 use lib.IntN.{ℤ, pos, negsuc, negℤ}
-use Rattle.text.specs.Words.{choose, wordAt}
+use Rattle.text.specs.Words.{wordAt}
 use Rattle.text.specs.declared.words.Word.{Word}
 use Rattle.text.specs.declared.words.Word.the-variants.{After, Other}
 use Rattle.numeral.specs.declared.read.Digit.{Digit}
@@ -15,6 +15,7 @@ use Rattle.numeral.specs.declared.read.Number.{Number}
 use Rattle.numeral.specs.declared.read.Number.the-variants as N
 use Rattle.numeral.specs.declared.read.Signed.{Signed}
 use Rattle.numeral.specs.declared.read.Signed.the-variants as S
+use Rattle.bits.specs.Choice.{choose}
 
 -- The byte is a digit, '0' (48) to '9' (57).
 abbrev pub isDigit : ℕ → Bool

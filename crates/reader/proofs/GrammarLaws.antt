@@ -8,6 +8,7 @@ use native.Mathlib.Omega.{arith}
 use borrow.Author.Tests.{le-leb, leb-true, leb-false}
 use lib.Dec.{leb, eqb}
 use lib.ListN.{length, drop}
+use Rattle.bits.proofs.Tests.{both}
 use Rattle.text.specs.Words.{bytes, wordAt, startsWith}
 use Rattle.text.specs.declared.words.Word.{Word}
 use Rattle.text.specs.declared.words.Word.the-variants.{After, Other}
@@ -15,14 +16,17 @@ use Rattle.text.proofs.WordLaws.{word-found, word-other, found-word}
 use Rattle.command.specs.Forms as F
 use Rattle.command.specs.Forms.{Form, Spells, parts, IsSpelling}
 use Rattle.command.specs.Limits.{keeps, commandOf, formOf, numberOf, limited}
-use Rattle.reader.specs.Reading.{Values, Shape, startShape, passShape, requestShape, replyShape, dropShape, readShape, waitingShape, shapes, readParts, formed, byWord, parseAs, parse, judged, shapedFrom, wordThen, takenWord, wordOf, wordFrom, restOf, longestLine, readingOf}
+use Rattle.shapes.specs.Shapes.{Values, Shape, startShape, replyShape, numberedShape, bareShape, readParts, formed, judged, shapedFrom, restOf}
+use Rattle.reader.specs.Reading.{shapes, byWord, parseAs, parse, wordThen, takenWord, wordOf, wordFrom, longestLine, readingOf}
+use Rattle.shapes.specs.declared.Numbered.the-variants as N
+use Rattle.shapes.specs.declared.Bare.the-variants as B
 use Rattle.reader.specs.Grammar.{Shaped, ReadsTheGrammar}
 use Rattle.command.specs.declared.Command.{Command}
 use Rattle.command.specs.declared.Command.the-variants as C
 use Rattle.command.specs.declared.Reading.{Reading}
 use Rattle.command.specs.declared.Reading.the-variants.{Accepted, NoShape, OutsideLimits}
 use Rattle.command.proofs.LimitLaws.{limited-keeps, limited-breaks}
-use Rattle.reader.proofs.PartLaws.{partsOf, sound, complete, apart, rest-is}
+use Rattle.shapes.proofs.PartLaws.{partsOf, sound, complete, apart, rest-is}
 
 -- ---- what is parsed is a spelling
 
@@ -80,10 +84,6 @@ allUnlike zero ss u = true
 allUnlike (suc n) [] u = true
 allUnlike (suc n) (s ∷ ss) u = unlike (bytes (s .word)) u && allUnlike n ss u
 
-both : (p q : Bool) → (p && q) ≡ true → (p ≡ true) × (q ≡ true)
-both true q h = (refl, h)
-both false q h = absurd (let k : _≡_ {A = ℕ} 0 1 = cc in omega arith)
-
 skip : (n : ℕ) (ss : List Shape) (line u rest : List ℕ) → line ≡ u ++ rest → allUnlike n ss u ≡ true → parseAs ss line ≡ parseAs (drop n ss) line
 unfolding parseAs
 skip zero ss line u rest e h = refl
@@ -113,11 +113,11 @@ find-shape n s ss line v d u a (t, rest, p, f, h) =
 pub parse-complete : (f : Form) (line : List ℕ) → IsSpelling f line → parse line ≡ some f
 parse-complete (F.reply peer tag edges) line h =
     find-shape 0 replyShape _ line (peer, (tag, (edges .lower, (edges .upper, tt)))) refl refl refl h
-parse-complete (F.pass ticks) line h = find-shape 1 passShape _ line (ticks, tt) refl refl refl h
-parse-complete (F.request peer) line h = find-shape 2 requestShape _ line (peer, tt) refl refl refl h
-parse-complete F.read line h = find-shape 3 readShape _ line tt refl refl refl h
-parse-complete (F.drop peer) line h = find-shape 4 dropShape _ line (peer, tt) refl refl refl h
-parse-complete F.waiting line h = find-shape 5 waitingShape _ line tt refl refl refl h
+parse-complete (F.pass ticks) line h = find-shape 1 (numberedShape N.Pass) _ line (ticks, tt) refl refl refl h
+parse-complete (F.request peer) line h = find-shape 2 (numberedShape N.Request) _ line (peer, tt) refl refl refl h
+parse-complete F.read line h = find-shape 3 (bareShape B.Read) _ line tt refl refl refl h
+parse-complete (F.drop peer) line h = find-shape 4 (numberedShape N.Drop) _ line (peer, tt) refl refl refl h
+parse-complete F.waiting line h = find-shape 5 (bareShape B.Waiting) _ line tt refl refl refl h
 parse-complete (F.start board rule claim edges) line h =
     find-shape 6 startShape _ line (board, (rule, (claim, (edges .lower, (edges .upper, tt))))) refl refl refl h
 

@@ -3,151 +3,30 @@
 use mathlib.Core.List.{List, [], _∷_}
 use mathlib.Core.Option.{Option, none, some}
 use Prim.Native.Nat.{ℕ}
-use Prim.Native.String.{String}
 use lib.Dec.{leb}
-use lib.IntN.{ℤ}
 use lib.ListN.{length}
-use Rattle.text.specs.Words.{bytes, choose, wordAt}
+use Rattle.text.specs.Words.{bytes, wordAt}
 use Rattle.text.specs.declared.words.Word.{Word}
 use Rattle.text.specs.declared.words.Word.the-variants.{After, Other}
-use Rattle.numeral.specs.Reading.{numberAt, signedAt, integer}
-use Rattle.numeral.specs.declared.read.Number.{Number}
-use Rattle.numeral.specs.declared.read.Number.the-variants as N
-use Rattle.numeral.specs.declared.read.Signed.{Signed}
-use Rattle.numeral.specs.declared.read.Signed.the-variants as S
-use Rattle.command.specs.Edges.{interval}
-use Rattle.command.specs.Forms as F
 use Rattle.command.specs.Forms.{Form}
-use Rattle.command.specs.Limits.{limited}
-use Rattle.command.specs.declared.Rule.{Rule}
-use Rattle.command.specs.declared.Rule.the-variants.{Im, Mm}
-use Rattle.reader.specs.declared.parts.RuleAt.{RuleAt}
-use Rattle.reader.specs.declared.parts.RuleAt.the-variants as R
-use Rattle.reader.specs.declared.parts.End.{End}
-use Rattle.reader.specs.declared.parts.End.the-variants as E
-use Rattle.reader.specs.declared.shapes.FormWord.{FormWord}
-use Rattle.reader.specs.declared.shapes.FormWord.the-variants as W
-use Rattle.reader.specs.declared.shapes.WordAt.{WordAt}
 use Rattle.command.specs.declared.Reading.{Reading}
 use Rattle.command.specs.declared.Reading.the-variants.{NoShape}
+use Rattle.shapes.specs.Shapes.{Shape, startShape, replyShape, numberedShape, bareShape, formed, judged}
+-- passed on for those who compute with `readingOf`
+unfoldable pub use Rattle.shapes.specs.Shapes.{ruleAt, endAt, readParts, shapedFrom}
+use Rattle.shapes.specs.declared.FormWord.{FormWord}
+use Rattle.shapes.specs.declared.FormWord.the-variants as W
+use Rattle.shapes.specs.declared.Numbered.the-variants.{Pass, Request, Drop}
+use Rattle.shapes.specs.declared.Bare.the-variants.{Read, Waiting}
+use Rattle.reader.specs.declared.words.WordAt.{WordAt}
+use Rattle.bits.specs.Choice.{choose}
 
--- What is read one after the other: a text, the rule's word, a numeral, a signed numeral.
-pub data Kind : Type 0 where
-  text : String → Kind
-  rule number edge : Kind
+-- The shapes, in the order in which they are tried: the commonest first, then those that come less often.
+abbrev pub rareShapes : List Shape
+rareShapes = bareShape Read ∷ numberedShape Drop ∷ bareShape Waiting ∷ startShape ∷ []
 
--- The values that are read.
-abbrev pub Values : List Kind → Type 0
-Values [] = Unit {0}
-Values (text t ∷ ks) = Values ks
-Values (rule ∷ ks) = Rule × Values ks
-Values (number ∷ ks) = ℕ × Values ks
-Values (edge ∷ ks) = ℤ × Values ks
-
--- The rule whose word stands at the place, with the place after it.
-abbrev pub ruleFrom : Word → Word → RuleAt
-ruleFrom (After next) w = R.Of Im next
-ruleFrom Other (After next) = R.Of Mm next
-ruleFrom Other Other = R.Absent
-
-unfoldable pub ruleAt : List ℕ → ℕ → RuleAt
-ruleAt line at = ruleFrom (wordAt line at (bytes (F.ruleText Im))) (wordAt line at (bytes (F.ruleText Mm)))
-
--- Whether the line ends at the place.
-unfoldable pub endAt : List ℕ → ℕ → End
-endAt line at = choose (leb (length line) at) (λ _. E.Here) (λ _. E.Later)
-
--- A value before those that follow it.
-abbrev pub before : {A B : Type 0} → A → Option B → Option (A × B)
-before a none = none
-before a (some b) = some (a, b)
-
--- Going on after a part, or not.
-abbrev pub afterWord : {A : Type 0} → Word → (ℕ → Option A) → Option A
-afterWord (After next) k = k next
-afterWord Other k = none
-
-abbrev pub afterRule : {A : Type 0} → RuleAt → (Rule → ℕ → Option A) → Option A
-afterRule (R.Of r next) k = k r next
-afterRule R.Absent k = none
-
-abbrev pub atEnd : {A : Type 0} → End → A → Option A
-atEnd E.Here a = some a
-atEnd E.Later a = none
-
-abbrev pub afterNumber : {A : Type 0} → Number → (ℕ → ℕ → Option A) → Option A
-afterNumber (N.Of n next) k = k n next
-afterNumber N.Absent k = none
-
-abbrev pub afterSigned : {A : Type 0} → Signed → (ℤ → ℕ → Option A) → Option A
-afterSigned (S.Of negative magnitude next) k = k (integer negative magnitude) next
-afterSigned S.Absent k = none
-
--- Parts of these kinds from the place to the line's last byte, 'and no byte after its last bracket'.
-unfoldable pub readParts : (ks : List Kind) → List ℕ → ℕ → Option (Values ks)
-readParts [] line at = atEnd (endAt line at) tt
-readParts (text t ∷ ks) line at = afterWord (wordAt line at (bytes t)) (λ next. readParts ks line next)
-readParts (rule ∷ ks) line at = afterRule (ruleAt line at) (λ r next. before r (readParts ks line next))
-readParts (number ∷ ks) line at = afterNumber (numberAt line at) (λ n next. before n (readParts ks line next))
-readParts (edge ∷ ks) line at = afterSigned (signedAt line at) (λ z next. before z (readParts ks line next))
-
--- A shape of the grammar: its form's word, the text that it begins with, what follows, and the form that it is of.
-pub record Shape : Type 0 where
-  pub named : FormWord
-  pub word : String
-  pub kinds : List Kind
-  pub form : Values kinds → Form
-
--- '(LOWER UPPER)' at the end of a line, and a last numeral
-abbrev pub lastEdges : List Kind
-lastEdges = text " (" ∷ edge ∷ text " " ∷ edge ∷ text "))" ∷ []
-
-abbrev pub lastNumber : List Kind
-lastNumber = number ∷ text ")" ∷ []
-
--- the kinds of `start` and of `reply` after their words
-abbrev pub startKinds : List Kind
-startKinds = number ∷ rule ∷ number ∷ lastEdges
-
-abbrev pub replyKinds : List Kind
-replyKinds = number ∷ text " " ∷ number ∷ lastEdges
-
-abbrev pub startShape : Shape
-startShape =
-    record {
-      named = W.Start;
-      word = "(start ";
-      kinds = startKinds;
-      form = λ v. F.start (v .0) (v .1 .0) (v .1 .1 .0) (interval (v .1 .1 .1 .0) (v .1 .1 .1 .1 .0));
-    }
-
-abbrev pub passShape : Shape
-passShape = record { named = W.Pass; word = "(pass "; kinds = lastNumber; form = λ v. F.pass (v .0) }
-
-abbrev pub requestShape : Shape
-requestShape = record { named = W.Request; word = "(request "; kinds = lastNumber; form = λ v. F.request (v .0) }
-
-abbrev pub replyShape : Shape
-replyShape =
-    record { named = W.Reply; word = "(reply "; kinds = replyKinds; form = λ v. F.reply (v .0) (v .1 .0) (interval (v .1 .1 .0) (v .1 .1 .1 .0)) }
-
-abbrev pub dropShape : Shape
-dropShape = record { named = W.Drop; word = "(drop "; kinds = lastNumber; form = λ v. F.drop (v .0) }
-
-abbrev pub readShape : Shape
-readShape = record { named = W.Read; word = "(read)"; kinds = []; form = λ v. F.read }
-
-abbrev pub waitingShape : Shape
-waitingShape = record { named = W.Waiting; word = "(waiting)"; kinds = []; form = λ v. F.waiting }
-
--- The shapes, in the order in which they are tried: the commonest first.
 abbrev pub shapes : List Shape
-shapes = replyShape ∷ passShape ∷ requestShape ∷ readShape ∷ dropShape ∷ waitingShape ∷ startShape ∷ []
-
--- The form of what was read, if it was.
-abbrev pub formed : {A : Type 0} → (A → Form) → Option A → Option Form
-formed f none = none
-formed f (some v) = some (f v)
+shapes = replyShape ∷ numberedShape Pass ∷ numberedShape Request ∷ rareShapes
 
 -- The form of the first shape whose text the line begins with, if the rest of the line is of that shape.
 abbrev pub byWord : Word → (ℕ → Option Form) → Option Form → Option Form
@@ -161,11 +40,6 @@ parseAs (s ∷ ss) line =
 
 unfoldable pub parse : List ℕ → Option Form
 parse line = parseAs shapes line
-
--- 'line is no command shape' is refusal 1, and comes before refusal 2.
-abbrev pub judged : Option Form → Reading
-judged none = NoShape
-judged (some f) = limited f
 
 -- A form's word, and the place after it; `Unknown`, and the place that was looked at.
 abbrev pub wordThen : FormWord → ℕ → WordAt
@@ -183,21 +57,6 @@ wordOf (s ∷ ss) line at = takenWord (wordAt line at (bytes (s .word))) (s .nam
 
 unfoldable pub wordFrom : List ℕ → ℕ → WordAt
 wordFrom line at = wordOf shapes line at
-
--- What a line is that begins with the shape's text, and goes on at the place.
-unfoldable pub shapedFrom : Shape → List ℕ → ℕ → Reading
-shapedFrom s line at = judged (formed (s .form) (readParts (s .kinds) line at))
-
--- What a line is that begins with the word, and goes on at the place.
-unfoldable pub restOf : FormWord → List ℕ → ℕ → Reading
-restOf W.Start line at = shapedFrom startShape line at
-restOf W.Pass line at = shapedFrom passShape line at
-restOf W.Request line at = shapedFrom requestShape line at
-restOf W.Reply line at = shapedFrom replyShape line at
-restOf W.Drop line at = shapedFrom dropShape line at
-restOf W.Read line at = shapedFrom readShape line at
-restOf W.Waiting line at = shapedFrom waitingShape line at
-restOf W.Unknown line at = NoShape
 
 -- 'A line is at most 120 bytes, without its LF.'
 abbrev pub longestLine : ℕ

@@ -5,13 +5,12 @@ use crate::walk::rest;
 use crate::walk::word;
 use command::Reading;
 
-mod forms;
-mod parts;
-mod shapes;
 mod walk;
+mod words;
 
 ghost use mathlib.Core.Path.{_≡_};
-ghost use Rattle.reader.specs.Reading.{judged, parse, readingOf};
+ghost use Rattle.reader.specs.Reading.{parse, readingOf};
+ghost use Rattle.shapes.specs.Shapes.{judged};
 
 // The longest line, without its LF.
 pub const LONGEST_LINE: usize = 120;

@@ -1,12 +1,13 @@
 // The walk along a line: a struct that refers to the line, with the place that it has come to. What reads bytes takes the struct apart
 // and leaves the work to a function on a slice and a place.
-use crate::shapes::FormWord;
-use crate::shapes::WordAt;
-use crate::shapes::form_word;
-use crate::shapes::parts_from;
+use crate::words::WordAt;
+use crate::words::form_word;
 use command::Reading;
+use shapes::FormWord;
+use shapes::parts_from;
 ghost use mathlib.Core.Path.{_≡_};
-ghost use Rattle.reader.specs.Reading.{wordFrom, restOf};
+ghost use Rattle.reader.specs.Reading.{wordFrom};
+ghost use Rattle.shapes.specs.Shapes.{restOf};
 
 pub struct Walk<'a> {
     pub line: &'a [u8],

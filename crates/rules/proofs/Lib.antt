@@ -1,4 +1,6 @@
--- Laws of the rules: on edges and widths, and on sets of moments.
-pub mod Edges
+-- Laws of the rules: on sets of moments, on limits and widths, and on verdicts.
 pub mod Sets
-pub mod Tests
+pub mod Limits
+pub mod Widths
+pub mod VerdictLaws
+pub mod Fits

@@ -8,11 +8,13 @@ use native.Mathlib.Omega.{arith}
 use borrow.Author.Tests.{not-true}
 use lib.IntN.{ℤ, pos, _+ℤ_, _-ℤ_}
 use lib.Signed.{_≤ℤ_}
-use Rattle.moment.specs.Moment.{shortest, longest, Holds, shareOne}
+use Rattle.moment.specs.Moment.{shortest, longest}
 use Rattle.moment.specs.declared.Interval.{Interval}
 use Rattle.moment.proofs.Integers.{ints, up, dn, sum, dif}
-use Rattle.moment.proofs.Intervals.{meet, share-made}
-use Rattle.rules.specs.Rules.{widened, bracket, conflicting, narrowed, adopted}
+use Rattle.moment.proofs.IntervalLaws.{meet, share-made}
+use Rattle.bits.proofs.Tests.{clash}
+use Rattle.rules.specs.Rules.{widened, bracket, conflicting, narrowed, outward, adopted}
+use Rattle.moment.specs.Intervals.{Holds, shareOne}
 
 -- a course that was within the edges is within those of a pass
 pub passed-within : (claim n : ℕ) (edges : Interval) (x m : ℤ) (d : ℕ) → Holds edges x → n * shortest claim ≤ d → d ≤ n * longest claim → m ≡ x +ℤ pos d → Holds (widened claim n edges) m
@@ -21,7 +23,7 @@ passed-within claim n edges x m d h least most e =
     omega (ints, sum (edges .lower) (pos (n * shortest claim)), sum (edges .upper) (pos (n * longest claim)), sum x (pos d))
 
 -- Where a course came from that stands within the edges after a pass: a moment of the edges before it, and what it gained.
-pub record Came (edges : Interval) (least most : ℕ) (m : ℤ) : Type 0 where
+pub record Reached (edges : Interval) (least most : ℕ) (m : ℤ) : Type 0 where
   pub moment : ℤ
   pub gained : ℕ
   pub within : Holds edges moment
@@ -30,7 +32,7 @@ pub record Came (edges : Interval) (least most : ℕ) (m : ℤ) : Type 0 where
   pub sum : m ≡ moment +ℤ pos gained
 
 -- It gained the least, or more if it would have been past the upper edge.
-pub passed-reached : (claim n : ℕ) (edges : Interval) (m : ℤ) → edges .lower ≤ℤ edges .upper → Holds (widened claim n edges) m → Came edges (n * shortest claim) (n * longest claim) m
+pub passed-reached : (claim n : ℕ) (edges : Interval) (m : ℤ) → edges .lower ≤ℤ edges .upper → Holds (widened claim n edges) m → Reached edges (n * shortest claim) (n * longest claim) m
 unfolding widened
 passed-reached claim n edges m order h =
     let past = m -ℤ edges .upper in
@@ -50,7 +52,7 @@ passed-reached claim n edges m order h =
     }
 
 -- A bracket holds the moments that lie in the reply's edges or up to w longest ticks after them.
-pub bracket-reached : (claim w : ℕ) (reply : Interval) (m : ℤ) → reply .lower ≤ℤ reply .upper → Holds (bracket claim w reply) m → Came reply 0 (w * longest claim) m
+pub bracket-reached : (claim w : ℕ) (reply : Interval) (m : ℤ) → reply .lower ≤ℤ reply .upper → Holds (bracket claim w reply) m → Reached reply 0 (w * longest claim) m
 unfolding bracket
 bracket-reached claim w reply m order h =
     let past = m -ℤ reply .upper in
@@ -67,7 +69,7 @@ bracket-reached claim w reply m order h =
       sum = omega (ints, sum (m -ℤ pos over) (pos over));
     }
 
-pub bracket-within : (claim w : ℕ) (reply : Interval) (m : ℤ) → Came reply 0 (w * longest claim) m → Holds (bracket claim w reply) m
+pub bracket-within : (claim w : ℕ) (reply : Interval) (m : ℤ) → Reached reply 0 (w * longest claim) m → Holds (bracket claim w reply) m
 unfolding bracket
 bracket-within claim w reply m c =
     let within = c .within in
@@ -80,7 +82,7 @@ unfolding conflicting
 none-in-both b edges m e h k =
     let apart : shareOne b edges ≡ false = not-true (shareOne b edges) e in
     let shared = share-made b edges (record { moment = m; first = h; second = k }) in
-    let z : _≡_ {A = ℕ} 0 1 = cc in omega arith
+    clash shared apart
 
 -- under im the new edges hold what lies in the bracket and in the edges, and nothing else
 pub met-within : (b edges : Interval) (m : ℤ) → Holds edges m → Holds b m → Holds (narrowed b edges) m
@@ -92,6 +94,6 @@ unfolding narrowed
 met-reached b edges m h = meet b edges m .1 h
 
 -- under mm the new edges hold the whole bracket
-pub adopted-holds : (claim w : ℕ) (reply : Interval) (m : ℤ) → Holds (bracket claim w reply) m → Holds (adopted claim w reply) m
-unfolding bracket adopted
-adopted-holds claim w reply m h = omega (ints, dif (reply .lower) (pos (w * longest claim)))
+pub adopted-holds : (claim w : ℕ) (reply : Interval) (m : ℤ) → Holds (bracket claim w reply) m → Holds (adopted (outward claim w) reply) m
+unfolding bracket adopted outward
+adopted-holds claim w reply m h = omega (ints, dif (reply .lower) (pos (w * longest claim)), sum (reply .upper) (pos (w * longest claim)))

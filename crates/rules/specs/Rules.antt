@@ -1,15 +1,19 @@
 -- The rules on edges: document 01, 'The calls', from MM-1, MM-2, IM-1 and IM-2 of the report. All numbers are integers here.
-use mathlib.Core.Bool.{Bool, not, _&&_}
+use mathlib.Core.Bool.{Bool, not}
 use Prim.Native.Nat.{ℕ, _*_}
 use lib.IntN.{ℤ, pos, _+ℤ_, _-ℤ_}
 use lib.Signed.{leZ}
-use Rattle.moment.specs.Moment.{shortest, longest, inRange, largerOf, smallerOf, shareOne, floorHalf}
+use Rattle.moment.specs.Moment.{shortest, longest, largerOf, smallerOf, floorHalf}
+use Rattle.moment.specs.Intervals.{interval, shareOne}
 use Rattle.moment.specs.declared.Interval.{Interval}
-use Rattle.command.specs.Edges.{interval}
 
 -- 'Pass of n adds n times the shortest tick to the lower edge, n times the longest to the upper' (MM-1 and IM-1)
 unfoldable pub widened : ℕ → ℕ → Interval → Interval
 widened claim n edges = interval (edges .lower +ℤ pos (n * shortest claim)) (edges .upper +ℤ pos (n * longest claim))
+
+-- 'reply with w above 3600000': the most ticks that a reply may come after its request
+abbrev pub longestWait : ℕ
+longestWait = 3600000
 
 -- 'The bracket runs from TRAILING through LEADING + w times the longest tick.' w is the ticks since the request was sent.
 unfoldable pub bracket : ℕ → ℕ → Interval → Interval
@@ -23,18 +27,17 @@ conflicting b edges = not (shareOne b edges)
 unfoldable pub narrowed : Interval → Interval → Interval
 narrowed b edges = interval (largerOf (b .lower) (edges .lower)) (smallerOf (b .upper) (edges .upper))
 
--- 'rule mm: if LEADING - TRAILING + 2 times w times the longest tick is at most UPPER - LOWER' (MM-2)
-unfoldable pub noWider : ℕ → ℕ → Interval → Interval → Bool
-noWider claim w reply edges =
-    leZ ((reply .upper -ℤ reply .lower) +ℤ pos (2 * (w * longest claim))) (edges .upper -ℤ edges .lower)
+-- 'w times the longest tick': what rule mm moves each edge of a reply outward by (MM-2)
+unfoldable pub outward : ℕ → ℕ → ℤ
+outward claim w = pos (w * longest claim)
+
+-- 'rule mm: if LEADING - TRAILING + 2 times w times the longest tick is at most UPPER - LOWER', where the span is the w longest ticks
+unfoldable pub noWider : ℤ → Interval → Interval → Bool
+noWider span reply edges = leZ ((reply .upper -ℤ reply .lower) +ℤ (span +ℤ span)) (edges .upper -ℤ edges .lower)
 
 -- 'the new edges are TRAILING and LEADING, each moved outward by w times the longest tick'
-unfoldable pub adopted : ℕ → ℕ → Interval → Interval
-adopted claim w reply = interval (reply .lower -ℤ pos (w * longest claim)) (reply .upper +ℤ pos (w * longest claim))
-
--- both edges lie in the range
-unfoldable pub bothInRange : Interval → Bool
-bothInRange edges = inRange (edges .lower) && inRange (edges .upper)
+unfoldable pub adopted : ℤ → Interval → Interval
+adopted span reply = interval (reply .lower -ℤ span) (reply .upper +ℤ span)
 
 -- The edges that the read line tells: today the keeper's own.
 unfoldable pub told : ℕ → Interval → Interval

@@ -1,1 +1,27 @@
-// No code: the rules on edges, MM-1, MM-2, IM-1 and IM-2 on whole numbers, in specs/, and their laws in proofs/.
+// The rules on edges, and the verdict on a reply: document 01, 'The calls', from MM-1, MM-2, IM-1 and IM-2 of the report.
+use moment::Interval;
+
+pub mod edges;
+pub mod judge;
+
+// The most ticks that a reply may come after its request.
+pub const LONGEST_WAIT: u64 = 3600000;
+
+// 'RULE is `im` or `mm`'
+pub enum Rule {
+    Im,
+    Mm,
+}
+
+// What a reply is found to be.
+pub enum Finding {
+    Conflict,
+    Taken,
+    Kept,
+}
+
+// The finding, and the edges that the keeper has after it: those taken, or its own.
+pub struct Verdict {
+    pub finding: Finding,
+    pub edges: Interval,
+}

@@ -11,13 +11,12 @@ use Rattle.command.specs.declared.Reading.the-variants.{NoShape}
 use Rattle.reader.specs.Reading.{longestLine, readingOf}
 use Rattle.keeper.specs.State.{fresh}
 use Rattle.keeper.specs.declared.Keeper.{Keeper}
-use Rattle.line.specs.Answers.{IsLine}
-use Rattle.line.specs.Call.{leastOutput, byReading, answered, keeperAfter}
+use Rattle.answers.specs.Answers.{IsLine, leastOutput}
+use Rattle.line.specs.Call.{byReading, answered, keeperAfter}
 use Rattle.history.specs.Demand3.{keeperThrough}
-use Rattle.history.proofs.Invariant.{clash}
+use Rattle.bits.proofs.Tests.{clash, by-test}
 use Rattle.history.proofs.Theorem.{demand-3}
 use Rattle.lines.specs.Lines.{breaks, linesOf}
-use Rattle.lines.proofs.LineLaws.{by-test}
 use Rattle.stream.specs.Stream.{through, Answers, Step, allGot, allWritten, ending, Turn, Turns, Ran, LongAlike}
 use Rattle.stream.proofs.More.{got-more, written-more, turns-more}
 use Rattle.stream.proofs.SoFar.{whole-lines-answered}
@@ -114,7 +113,7 @@ module _
   where
     -- the end is seen only where no whole line is left
     none-waits : s .full ≡ false
-    none-waits = by-test (s .full) (λ f. absurd (clash (g .last) last (read .waits f .1))) (λ f. f)
+    none-waits = by-test (s .full) (λ f. absurd (clash {t = g .last} last (read .waits f .1))) (λ f. f)
 
     -- what is left stands at the front, and the last turn is over it and its ending
     at-end : between buffer₁ (s .from) (s .end + g .count) ≡ between buffer (s .from) (s .end) ++ ending (between buffer (s .from) (s .end))

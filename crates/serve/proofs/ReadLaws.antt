@@ -17,7 +17,7 @@ use mir.Facts.{toZ-ofZ}
 use Rattle.io.specs.Counts.{clamped}
 use Rattle.lines.specs.Lines.{lf}
 use Rattle.reader.specs.Reading.{longestLine}
-use Rattle.history.proofs.Invariant.{clash}
+use Rattle.bits.proofs.Tests.{clash}
 use Rattle.stream.specs.Stream.{ending}
 use Rattle.serve.specs.Turning.{InOrder}
 use Rattle.serve.specs.Reading.{LineEnded, Brought, Read}
@@ -75,7 +75,7 @@ module _ {buffer : List ℕ} {held : ℕ} where
         last-is = refl;
         failure = λ _. (refl, refl);
         end = λ e. absurd (let z : _≡_ {A = ℕ} 0 1 = cc in omega arith);
-        bytes = λ e. absurd (clash true refl e);
+        bytes = λ e. absurd (clash {t = true} refl e);
       }
 
   pub brought-end : (moved : ℤ) {buffer′ : List ℕ} {n : ℕ} → moved ≡ pos 0 → LineEnded buffer held buffer′ n
@@ -84,9 +84,9 @@ module _ {buffer : List ℕ} {held : ℕ} where
       record {
         failed-is = rw e;
         last-is = rw e;
-        failure = λ t. absurd (clash (ltZ moved (pos 0)) t (rw e));
+        failure = λ t. absurd (clash {t = ltZ moved (pos 0)} t (rw e));
         end = λ _. ended;
-        bytes = λ t. absurd (clash (leZ moved (pos 0)) (rw e) t);
+        bytes = λ t. absurd (clash {t = leZ moved (pos 0)} (rw e) t);
       }
 
   pub brought-bytes : (moved : ℤ) {n : ℕ} → ltZ moved (pos 0) ≡ false → (moved ≡ pos 0 → ⊥) → n ≡ clamped moved (length buffer - held)
@@ -96,11 +96,11 @@ module _ {buffer : List ℕ} {held : ℕ} where
       record {
         failed-is = sym t;
         last-is = sym (above k);
-        failure = λ f. absurd (clash (ltZ (pos (suc k)) (pos 0)) f t);
+        failure = λ f. absurd (clash {t = ltZ (pos (suc k)) (pos 0)} f t);
         end = λ f. absurd (some f);
         bytes = λ _. (e, refl);
       }
-  brought-bytes (negsuc k) t some e = absurd (clash true refl t)
+  brought-bytes (negsuc k) t some e = absurd (clash {t = true} refl t)
 
 -- ---- what a read gives
 
@@ -112,9 +112,9 @@ module _ (s : Stream) {buffer : List ℕ} (o : InOrder s buffer) where
         size = refl;
         kept = refl;
         within = omega (arith, o .within);
-        failure = λ f. absurd (clash true refl (sym f));
+        failure = λ f. absurd (clash {t = true} refl (sym f));
         waits = λ _. (refl, refl, refl);
-        ended = λ l. absurd (clash true refl (sym l));
+        ended = λ l. absurd (clash {t = true} refl (sym l));
       }
 
   -- else what it brought stands behind what is held
@@ -127,8 +127,8 @@ module _ (s : Stream) {buffer : List ℕ} (o : InOrder s buffer) where
         kept = rw stays same;
         within = omega (arith, none, o .within);
         failure = λ _. (b .last-is, none);
-        waits = λ t. absurd (clash (s .full) t more);
-        ended = λ l f. absurd (clash _ (b .failed-is) f);
+        waits = λ t. absurd (clash {t = s .full} t more);
+        ended = λ l f. absurd (clash (b .failed-is) f);
       }
   got-read more room (pos zero) {read} size same b =
       let e = b .end refl in
@@ -136,8 +136,8 @@ module _ (s : Stream) {buffer : List ℕ} (o : InOrder s buffer) where
         size = e .size ∙ size;
         kept = e .kept ∙ same;
         within = omega (arith, e .count, ending-most (take (s .end) read), o .front more .1);
-        failure = λ f. absurd (clash _ f (b .failed-is));
-        waits = λ t. absurd (clash (s .full) t more);
+        failure = λ f. absurd (clash f (b .failed-is));
+        waits = λ t. absurd (clash {t = s .full} t more);
         ended = λ l f. rw same at (e .bytes);
       }
   got-read more room (pos (suc k)) size same b =
@@ -146,7 +146,7 @@ module _ (s : Stream) {buffer : List ℕ} (o : InOrder s buffer) where
         size = rw stays size;
         kept = rw stays same;
         within = omega (arith, some, size, o .within);
-        failure = λ f. absurd (clash _ f (b .failed-is ∙ le-ltb (suc k) 0 (omega arith)));
-        waits = λ t. absurd (clash (s .full) t more);
-        ended = λ l. absurd (clash _ l (b .last-is ∙ above k));
+        failure = λ f. absurd (clash f (b .failed-is ∙ le-ltb (suc k) 0 (omega arith)));
+        waits = λ t. absurd (clash {t = s .full} t more);
+        ended = λ l. absurd (clash l (b .last-is ∙ above k));
       }

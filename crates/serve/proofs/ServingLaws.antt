@@ -9,12 +9,13 @@ use borrow.Author.Tests.{le-ltb}
 use lib.ListN.{length, take, drop, length-append, length-drop, drop-of-length-le}
 use lib.Seq.{take-all, take-at, drop-at, drop-drop}
 use Rattle.keeper.specs.declared.Keeper.{Keeper}
-use Rattle.line.specs.Call.{leastOutput, answered, keeperAfter, Wrote, Called}
+use Rattle.line.specs.Call.{answered, keeperAfter, Wrote, Called}
 use Rattle.lines.specs.Lines.{lf, breaks, lineLength, joined}
 use Rattle.lines.proofs.LineLaws.{joined-append, unbroken-append, line-whole, line-unbroken, whole-breaks, open-breaks}
 use Rattle.stream.specs.Stream.{through, Answers}
 use Rattle.stream.proofs.Answering.{through-append, answers-append}
 use Rattle.serve.specs.Serving.{keeperNext, IsAnswer, Answered, LinesAnswered}
+use Rattle.answers.specs.Answers.{leastOutput}
 
 -- the keeper after a line does not depend on the room, where there is enough
 pub room-enough : (k : Keeper) (l : List ℕ) (room : ℕ) → leastOutput ≤ room → keeperAfter k l room ≡ keeperNext k l

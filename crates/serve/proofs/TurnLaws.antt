@@ -9,10 +9,10 @@ use lib.Dec.{leb}
 use lib.ListN.{length, take, drop, length-append, length-take, drop-of-length-le}
 use lib.Seq.{take-at, drop-at}
 use Rattle.keeper.specs.declared.Keeper.{Keeper}
-use Rattle.line.specs.Call.{leastOutput}
+use Rattle.answers.specs.Answers.{leastOutput}
 use Rattle.reader.specs.Reading.{longestLine}
 use Rattle.lines.specs.Lines.{breaks, heldOf, Held}
-use Rattle.lines.proofs.LineLaws.{by-test}
+use Rattle.bits.proofs.Tests.{by-test}
 use Rattle.stream.specs.Stream.{Answers, Turn}
 use Rattle.serve.specs.Serving.{keeperNext, IsAnswer, Answered, LinesAnswered}
 use Rattle.serve.specs.Turning.{between, InOrder}

@@ -17,7 +17,7 @@ pub struct Lines {
 
 // Answers every whole line from a place on, while the output has room for one more answer. The call stands in one place, so that the
 // compiler makes it a part of the loop.
-pub(crate) fn answer_lines(keeper: Keeper, bytes: &[u8], from: usize, out: &mut [u8]) -> Lines
+pub fn answer_lines(keeper: Keeper, bytes: &[u8], from: usize, out: &mut [u8]) -> Lines
     ensures { λ r. ⌜ LinesAnswered keeper (drop from (now (bytes .entry))) (now (out .entry)) (r .keeper) (drop (r .from) (now (bytes .entry))) (r .filled) (r .full) (now (out .exit)) ⌝ }
 {
     let mut now = keeper;

@@ -7,7 +7,7 @@ use crate::turn::turn;
 use keeper::Keeper;
 use libc::STDERR_FILENO;
 
-mod answer;
+pub mod answer;
 mod read;
 mod turn;
 

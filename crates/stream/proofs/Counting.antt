@@ -6,9 +6,10 @@ use Prim.Native.Nat.{ℕ, _+_, _≤_}
 use native.Mathlib.Omega.{arith}
 use lib.ListN.{length}
 use Rattle.lines.specs.Lines.{breaks, joined}
-use Rattle.lines.proofs.LineLaws.{by-test, breaks-append, breaks-joined}
+use Rattle.lines.proofs.LineLaws.{breaks-append, breaks-joined}
 use Rattle.stream.specs.Stream.{Turn}
 use Rattle.stream.proofs.Splitting.{take-unbroken}
+use Rattle.bits.proofs.Tests.{by-test}
 
 module _ {S : Type 0} {next : S → List ℕ → S} {Answer : S → List ℕ → List ℕ → Type 0} {most : ℕ} where
   module _ {s s′ : S} {bytes left o : List ℕ} {full : Bool} (t : Turn next Answer most s bytes s′ left o full) where

@@ -7,7 +7,8 @@ use native.Mathlib.Omega.{arith}
 use lib.Dec.{eqb}
 use lib.ListN.{take, drop, take-append-drop}
 use Rattle.lines.specs.Lines.{lf, breaks, begun, linesOf, joined, Unbroken}
-use Rattle.lines.proofs.LineLaws.{by-test, breaks-append}
+use Rattle.lines.proofs.LineLaws.{breaks-append}
+use Rattle.bits.proofs.Tests.{by-test}
 
 -- Of bytes without an LF, the first is no LF, and the others have none.
 first-unbroken : (b : ℕ) (bs : List ℕ) → breaks (b ∷ bs) ≡ 0 → (eqb b lf ≡ false) × (breaks bs ≡ 0)

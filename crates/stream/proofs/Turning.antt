@@ -6,13 +6,14 @@ use Prim.Native.Nat.{ℕ, _+_}
 use native.Mathlib.Omega.{arith}
 use lib.ListN.{length, length-append}
 use Rattle.lines.specs.Lines.{breaks, linesOf, joined}
-use Rattle.lines.proofs.LineLaws.{by-test, breaks-append}
+use Rattle.lines.proofs.LineLaws.{breaks-append}
 use Rattle.stream.specs.Stream.{through, Answers, Turn, Step, allGot, allWritten, Turns}
 use Rattle.stream.proofs.Alike.{Alike, alike-refl, alike-trans, alike-behind}
 use Rattle.stream.proofs.Splitting.{lines-joined}
 use Rattle.stream.proofs.Trimming.{trimmed-alike}
 use Rattle.stream.proofs.Counting.{turn-unbroken, turn-count}
 use Rattle.stream.proofs.Answering.{through-append, answers-append}
+use Rattle.bits.proofs.Tests.{by-test}
 
 module _ {S : Type 0} (next : S → List ℕ → S) (Answer : S → List ℕ → List ℕ → Type 0) (most : ℕ) where
   module _ {s s′ : S} {bytes left o : List ℕ} {full : Bool} (t : Turn next Answer most s bytes s′ left o full) (m : List ℕ) where

@@ -10,8 +10,9 @@ use borrow.Author.Tests.{eq-eqb, ne-eqb, eqb-true}
 use lib.Dec.{eqb}
 use lib.ListN.{length, getD, drop, length-drop}
 use lib.Seq.{drop-cons, drop-drop}
-use Rattle.text.specs.Words.{choose, startsWith, wordAt}
+use Rattle.text.specs.Words.{startsWith, wordAt}
 use Rattle.text.specs.declared.words.Word.the-variants.{After, Other}
+use Rattle.bits.specs.Choice.{choose}
 
 both-true : (p q : Bool) → (p && q) ≡ true → (p ≡ true) × (q ≡ true)
 both-true true q h = (refl, h)

@@ -4,7 +4,7 @@ use mathlib.Core.List.{List, _++_}
 use Prim.Native.Nat.{ℕ, _+_}
 use lib.Dec.{leb}
 use lib.ListN.{length, take, drop}
-use Rattle.text.specs.Words.{choose}
+use Rattle.bits.specs.Choice.{choose}
 
 -- The output with the bytes s at the place, every other byte as it was; all of it as it was, if they do not fit there.
 unfoldable pub outputWith : List ℕ → ℕ → List ℕ → List ℕ

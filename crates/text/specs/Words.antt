@@ -8,13 +8,9 @@ use Prim.Native.String.{String}
 use Prim.Native.String as Text
 use lib.Dec.{eqb}
 use lib.ListN.{length, drop}
+use Rattle.bits.specs.Choice.{choose}
 use Rattle.text.specs.declared.words.Word.{Word}
 use Rattle.text.specs.declared.words.Word.the-variants.{After, Other}
-
--- One of two values; the other is not computed.
-abbrev pub choose : {A : Type 0} → Bool → (Unit {0} → A) → (Unit {0} → A) → A
-choose true a b = a tt
-choose false a b = b tt
 
 -- The bytes of a text: the code of each of its characters.
 abbrev pub bytes : String → List ℕ

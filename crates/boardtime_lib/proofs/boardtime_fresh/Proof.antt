@@ -1,7 +1,7 @@
 -- `boardtime_lib::boardtime_fresh` meets its contract.
 use mathlib.Core.Path.{sym, _∙_}
 use borrow.Author.Tests.{not-true, not-false, eqb-true, eqb-false}
-use Rattle.boardtime_lib.proofs.LentLaws.{fresh-refused, fresh-stored}
+use Rattle.boardtime_lib.proofs.ImageLaws.{fresh-refused, fresh-stored}
 use borrow.Author.Needs.{needs}
 use Rattle.boardtime_lib.proofs.boardtime_fresh.Statement.{statement}
 use Rattle.boardtime_lib.proofs.boardtime_fresh.Tie as tie

@@ -4,7 +4,7 @@ use mathlib.Core.Path.{sym, _∙_}
 use borrow.Author.Tests.{not-true, not-false, eqb-true, eqb-false}
 use native.Mathlib.Omega.{arith}
 use Rattle.line.proofs.ResponseLaws.{called-short}
-use Rattle.boardtime_lib.proofs.LentLaws.{line-refused, line-answered, left-refused, left-stored}
+use Rattle.boardtime_lib.proofs.ImageLaws.{line-refused, line-answered, left-refused, left-stored}
 use borrow.Author.Needs.{needs}
 use Rattle.boardtime_lib.proofs.boardtime_line.Statement.{statement}
 use Rattle.boardtime_lib.proofs.boardtime_line.Tie as tie

@@ -4,7 +4,7 @@ use mathlib.Core.Path.{refl, sym, _∙_}
 use native.Mathlib.Omega.{arith}
 use borrow.Author.Tests.{not-true, not-false, eqb-true, eqb-false}
 use Rattle.command.proofs.LimitLaws.{ticks-bound}
-use Rattle.boardtime_lib.proofs.LentLaws.{pass-refused, pass-too-long, pass-moved, left-refused, left-stored}
+use Rattle.boardtime_lib.proofs.ImageLaws.{pass-refused, pass-too-long, pass-moved, left-refused, left-stored}
 use borrow.Author.Needs.{needs}
 use Rattle.boardtime_lib.proofs.boardtime_pass.Statement.{statement}
 use Rattle.boardtime_lib.proofs.boardtime_pass.Tie as tie

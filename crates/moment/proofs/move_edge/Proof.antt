@@ -9,7 +9,7 @@ use mir.Val.{SFits, toZ, ofZ}
 use mir.Facts.{toZ-ofZ}
 use Rattle.moment.specs.Moment.{earliest, latest, inRange}
 use Rattle.moment.proofs.Integers.{ints, sum, dif}
-use Rattle.moment.proofs.Intervals.{range-before, range-after, moved-to, moved-outside}
+use Rattle.moment.proofs.IntervalLaws.{range-before, range-after, moved-to, moved-outside}
 use Rattle.moment.proofs.move_edge.Statement.{statement}
 use Rattle.moment.proofs.move_edge.Tie as tie
 

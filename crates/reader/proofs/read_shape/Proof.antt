@@ -43,17 +43,18 @@ use denote.Triple.Clauses.{ensured, lasts}
 use Rattle.command.specs.declared.Reading.{Reading}
 use Rattle.command.proofs.Reading as G
 use Rattle.command.proofs.Reading.Laws as G′
-use Rattle.reader.specs.Reading.{wordFrom, restOf, parse, judged}
+use Rattle.reader.specs.Reading.{wordFrom, parse}
+use Rattle.shapes.specs.Shapes.{restOf, judged}
 use Rattle.reader.specs.declared.walk.Walk.{Walk}
-use Rattle.reader.specs.declared.shapes.WordAt.{WordAt}
+use Rattle.reader.specs.declared.words.WordAt.{WordAt}
 use Rattle.reader.proofs.GrammarLaws.{walked-is-parsed}
 use Rattle.reader.proofs.Held.{B, OwnWalk, twice, only, landed-as}
 use Rattle.reader.proofs.walk.Walk as T
 use Rattle.reader.proofs.walk.Walk.Laws as T′
-use Rattle.reader.proofs.shapes.FormWord as F
-use Rattle.reader.proofs.shapes.FormWord.Laws as F′
-use Rattle.reader.proofs.shapes.WordAt as S
-use Rattle.reader.proofs.shapes.WordAt.Laws as S′
+use Rattle.shapes.proofs.FormWord as F
+use Rattle.shapes.proofs.FormWord.Laws as F′
+use Rattle.reader.proofs.words.WordAt as S
+use Rattle.reader.proofs.words.WordAt.Laws as S′
 use Rattle.reader.proofs.walk.begin as begin
 use Rattle.reader.proofs.walk.begin.Symbol as begin-def
 use Rattle.reader.proofs.walk.begin.Symbol.{name as #reader·begin}

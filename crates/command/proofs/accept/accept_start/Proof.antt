@@ -4,9 +4,10 @@ use borrow.Author.Tests.{not-true, not-false}
 use native.Mathlib.Omega.{arith}
 use mathlib.Core.Path.{sym, _∙_}
 use Rattle.command.specs.Limits.{limited}
-use Rattle.command.proofs.LimitLaws.{board-bound, claim-bound, kept-bounds, broken-bounds}
+use Rattle.command.proofs.LimitLaws.{board-bound, claim-bound}
 use Rattle.command.proofs.accept.accept_start.Statement.{statement}
 use Rattle.command.proofs.accept.accept_start.Tie as tie
+use Rattle.moment.proofs.BoundLaws.{kept-bounds, broken-bounds}
 
 board-within-requires : tie.Need-board-within-requires
 board-within-requires c κs = search needs

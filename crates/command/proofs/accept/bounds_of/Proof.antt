@@ -5,9 +5,10 @@ use mathlib.Core.Path.{_≡_, sym, _∙_}
 use mir.Syntax.{w64}
 use mir.Val.{toZ, ofZ}
 use Rattle.command.specs.Edges.{edgeValue}
-use Rattle.command.proofs.LimitLaws.{found-edge, far-edge, bounds-first, bounds-second, bounds-kept, bounds-broken}
+use Rattle.command.proofs.LimitLaws.{found-edge, far-edge}
 use Rattle.command.proofs.accept.bounds_of.Statement.{statement}
 use Rattle.command.proofs.accept.bounds_of.Tie as tie
+use Rattle.moment.proofs.BoundLaws.{bounds-first, bounds-second, bounds-kept, bounds-broken}
 
 integer-of-requires : tie.Need-integer-of-requires
 integer-of-requires c κs = search needs

@@ -2,26 +2,24 @@
 use borrow.Author.Needs.{needs}
 use borrow.Author.Tests.{not-true, not-false, le-leb, lt-leb}
 use mathlib.Core.Path.{sym, _∙_}
-use Rattle.keeper.proofs.Clauses.{in-parts}
+use Rattle.keeper.specs.State.{countsAsStarted}
 use Rattle.keeper.proofs.Keeper.counts_as_started.Statement.{statement}
 use Rattle.keeper.proofs.Keeper.counts_as_started.Tie as tie
 
 returns : tie.Need-returns
+unfolding countsAsStarted
 returns c =
     let x = c .before .before .args in
-    rw (
-      in-parts (x .self),
-      not-true (x .self .started) (c .if1 .taken),
-    )
+    rw (not-true (x .self .started) (c .if1 .taken))
 
 numbers-kept-requires : tie.Need-numbers-kept-requires
 numbers-kept-requires c κs = search needs
 
 returns-2 : tie.Need-returns-2
+unfolding countsAsStarted
 returns-2 c =
     let x = c .before .before .before .before .args in
     rw (
-      in-parts (x .self),
       sym (c .before .numbers-kept .ensures) ∙ not-true _ (c .if2 .taken),
       not-false (x .self .started) (c .before .before .if1 .left),
     )
@@ -42,10 +40,10 @@ add-if3 : tie.Need-add-if3
 add-if3 c = search needs
 
 returns-3 : tie.Need-returns-3
+unfolding countsAsStarted
 returns-3 c =
     let x = c .before .before .before .before .before .before .before .before .args in
     rw (
-      in-parts (x .self),
       sym (c .before .before .before .before .before .numbers-kept .ensures) ∙ not-false _ (c .before .before .before .before .if2 .left),
       ← c .before .before .before .count-of .ensures,
       lt-leb _ _ (c .if3 .taken),
@@ -56,10 +54,10 @@ bit-of-requires : tie.Need-bit-of-requires
 bit-of-requires c κs = search needs
 
 returns-4 : tie.Need-returns-4
+unfolding countsAsStarted
 returns-4 c =
     let x = c .before .before .before .before .before .before .before .before .before .before .args in
     rw (
-      in-parts (x .self),
       sym (c .before .before .before .before .before .before .before .numbers-kept .ensures) ∙ not-false _ (c .before .before .before .before .before .before .if2 .left),
       ← c .before .before .before .before .before .count-of .ensures,
       le-leb _ _ (c .before .before .if3 .left),
@@ -67,37 +65,20 @@ returns-4 c =
       not-false (x .self .started) (c .before .before .before .before .before .before .before .before .if1 .left),
     )
 
-others-idle-requires : tie.Need-others-idle-requires
-others-idle-requires c κs = search needs
+peers-kept-requires : tie.Need-peers-kept-requires
+peers-kept-requires c κs = search needs
 
 returns-5 : tie.Need-returns-5
+unfolding countsAsStarted
 returns-5 c =
-    let x = c .before .before .before .before .before .before .before .before .before .before .before .before .before .before .before .before .args in
+    let x = c .before .before .before .before .before .before .before .before .before .before .before .before .before .before .before .args in
     rw (
-      in-parts (x .self),
-      sym (c .before .before .before .before .before .before .before .before .before .before .before .before .before .numbers-kept .ensures) ∙ not-false _ (c .before .before .before .before .before .before .before .before .before .before .before .before .if2 .left),
-      ← c .before .before .before .before .before .before .before .before .before .before .before .count-of .ensures,
-      le-leb _ _ (c .before .before .before .before .before .before .before .before .if3 .left),
-      sym (c .before .before .before .before .before .before .before .bit-of .ensures) ∙ c .before .before .before .before .before .before .if4 .left,
-      sym (c .before .others-idle .ensures) ∙ not-true _ (c .if5 .taken),
-      not-false (x .self .started) (c .before .before .before .before .before .before .before .before .before .before .before .before .before .before .if1 .left),
-    )
-
-waiters-kept-requires : tie.Need-waiters-kept-requires
-waiters-kept-requires c κs = sym (c .before .before .before .others-idle .ensures) ∙ not-false _ (c .before .before .if5 .left)
-
-returns-6 : tie.Need-returns-6
-returns-6 c =
-    let x = c .before .before .before .before .before .before .before .before .before .before .before .before .before .before .before .before .before .before .before .args in
-    rw (
-      in-parts (x .self),
-      sym (c .before .before .before .before .before .before .before .before .before .before .before .before .before .before .before .before .numbers-kept .ensures) ∙ not-false _ (c .before .before .before .before .before .before .before .before .before .before .before .before .before .before .before .if2 .left),
-      ← c .before .before .before .before .before .before .before .before .before .before .before .before .before .before .count-of .ensures,
-      le-leb _ _ (c .before .before .before .before .before .before .before .before .before .before .before .if3 .left),
-      sym (c .before .before .before .before .before .before .before .before .before .before .bit-of .ensures) ∙ c .before .before .before .before .before .before .before .before .before .if4 .left,
-      sym (c .before .before .before .before .others-idle .ensures) ∙ not-false _ (c .before .before .before .if5 .left),
-      ← c .waiters-kept .ensures,
-      not-false (x .self .started) (c .before .before .before .before .before .before .before .before .before .before .before .before .before .before .before .before .before .if1 .left),
+      sym (c .before .before .before .before .before .before .before .before .before .before .before .before .numbers-kept .ensures) ∙ not-false _ (c .before .before .before .before .before .before .before .before .before .before .before .if2 .left),
+      ← c .before .before .before .before .before .before .before .before .before .before .count-of .ensures,
+      le-leb _ _ (c .before .before .before .before .before .before .before .if3 .left),
+      sym (c .before .before .before .before .before .before .bit-of .ensures) ∙ c .before .before .before .before .before .if4 .left,
+      ← c .peers-kept .ensures,
+      not-false (x .self .started) (c .before .before .before .before .before .before .before .before .before .before .before .before .before .if1 .left),
     )
 
 pub counts-as-started-spec : {M : Type 1} → statement M
@@ -115,7 +96,5 @@ counts-as-started-spec =
     returns-3
     bit-of-requires
     returns-4
-    others-idle-requires
-    returns-5
-    waiters-kept-requires
-    returns-6)
+    peers-kept-requires
+    returns-5)

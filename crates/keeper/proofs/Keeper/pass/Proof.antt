@@ -6,11 +6,12 @@ use native.Mathlib.Omega.{arith}
 use Rattle.command.specs.declared.Command.the-variants as C
 use Rattle.command.proofs.LimitLaws.{ticks-bound}
 use Rattle.keeper.specs.State.{stateOf}
-use Rattle.keeper.specs.Refusals.{refusal, first, causes}
+use Rattle.command.specs.Causes.{first, ownCauses}
+use Rattle.keeper.specs.Refusals.{refusal, causes, keeperCauses}
 use Rattle.keeper.specs.Apply.{accepted}
 use Rattle.keeper.proofs.CallLaws.{apply-refused, apply-accepted}
-use Rattle.keeper.proofs.Kept.{clauses}
-use Rattle.keeper.proofs.EdgeLaws.{placed-within, placed-outside}
+use Rattle.keeper.proofs.StartedLaws.{started-read}
+use Rattle.moment.proofs.BoundLaws.{placed-within, placed-outside}
 use Rattle.keeper.proofs.Keeper.pass.Statement.{statement}
 use Rattle.keeper.proofs.Keeper.pass.Tie as tie
 
@@ -21,7 +22,7 @@ refused-requires : tie.Need-refused-requires
 refused-requires c κs = search needs
 
 returns : tie.Need-returns
-unfolding refusal first causes stateOf
+unfolding refusal first causes ownCauses keeperCauses stateOf
 returns c =
     let x = c .before .before .before .args in
     c .refused .ensures
@@ -36,7 +37,7 @@ refused-requires-2 : tie.Need-refused-requires-2
 refused-requires-2 c κs = search needs
 
 returns-2 : tie.Need-returns-2
-unfolding refusal first causes stateOf
+unfolding refusal first causes ownCauses keeperCauses stateOf
 returns-2 c =
     let x = c .before .before .before .before .before .args in
     c .refused2 .ensures
@@ -60,7 +61,7 @@ refused-requires-3 : tie.Need-refused-requires-3
 refused-requires-3 c κs = search needs
 
 returns-3 : tie.Need-returns-3
-unfolding refusal first causes stateOf
+unfolding refusal first causes ownCauses keeperCauses stateOf
 returns-3 c =
     let x = c .before .before .before .before .before .before .before .before .args in
     c .refused3 .ensures
@@ -75,13 +76,13 @@ returns-3 c =
 add-total : tie.Need-add-total
 add-total c =
     let x = c .before .before .before .before .before .before .before .before .before .args in
-    omega (arith, clauses (x .self) (sym (c .before .before .before .before .before .before .counts-as-started .ensures) ∙ not-false _ (c .before .before .before .before .before .if2 .left)) .ticks, ticks-bound _ (sym (c .before .before .before .before .before .before .before .before .ticks-within .ensures) ∙ not-false _ (c .before .before .before .before .before .before .before .if1 .left)))
+    omega (arith, started-read (x .self) (sym (c .before .before .before .before .before .before .counts-as-started .ensures) ∙ not-false _ (c .before .before .before .before .before .if2 .left)) .ticks, ticks-bound _ (sym (c .before .before .before .before .before .before .before .before .ticks-within .ensures) ∙ not-false _ (c .before .before .before .before .before .before .before .if1 .left)))
 
 refused-requires-4 : tie.Need-refused-requires-4
 refused-requires-4 c κs = search needs
 
 returns-4 : tie.Need-returns-4
-unfolding refusal first causes stateOf
+unfolding refusal first causes ownCauses keeperCauses stateOf
 returns-4 c =
     let x = c .before .before .before .before .before .before .before .before .before .before .before .args in
     let (in-range, same) = placed-within _ _ (sym (c .before .before .before .before .before .before .widen .ensures) ∙ c .before .before .before .before .edges .given .1) in
@@ -95,15 +96,15 @@ returns-4 c =
       lt-leb _ _ (c .before .if3 .taken),
     )))
 
-moved-to-requires : tie.Need-moved-to-requires
-moved-to-requires c κs = search needs
+passed-to-requires : tie.Need-passed-to-requires
+passed-to-requires c κs = search needs
 
 returns-5 : tie.Need-returns-5
-unfolding refusal first causes stateOf accepted
+unfolding refusal first causes ownCauses keeperCauses stateOf accepted
 returns-5 c =
     let x = c .before .before .before .before .before .before .before .before .before .before .before .args in
     let (in-range, same) = placed-within _ _ (sym (c .before .before .before .before .before .before .widen .ensures) ∙ c .before .before .before .before .edges .given .1) in
-    rw (c .moved-to .ensures, same)
+    rw (c .passed-to .ensures, same)
     (sym (apply-accepted (x .self) (C.Pass (x .ticks))
     (rw (
       sym (c .before .before .before .before .before .before .before .before .before .before .ticks-within .ensures) ∙ not-false _ (c .before .before .before .before .before .before .before .before .before .if1 .left),
@@ -130,5 +131,5 @@ pass-spec =
     add-total
     refused-requires-4
     returns-4
-    moved-to-requires
+    passed-to-requires
     returns-5)

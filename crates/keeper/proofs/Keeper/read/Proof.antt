@@ -4,12 +4,13 @@ use borrow.Author.Tests.{not-true, not-false}
 use mathlib.Core.Path.{refl, sym, _∙_}
 use Rattle.command.specs.declared.Command.the-variants as C
 use Rattle.keeper.specs.State.{stateOf}
-use Rattle.keeper.specs.Refusals.{refusal, first, causes}
+use Rattle.command.specs.Causes.{first, ownCauses}
+use Rattle.keeper.specs.Refusals.{refusal, causes, keeperCauses}
 use Rattle.keeper.specs.Apply.{accepted}
 use Rattle.keeper.proofs.CallLaws.{apply-refused, apply-accepted}
 use Rattle.moment.proofs.Integers.{got}
 use Rattle.rules.specs.Rules.{told}
-use Rattle.keeper.proofs.Kept.{clauses}
+use Rattle.keeper.proofs.StartedLaws.{started-read}
 use Rattle.keeper.proofs.Keeper.read.Statement.{statement}
 use Rattle.keeper.proofs.Keeper.read.Tie as tie
 
@@ -20,7 +21,7 @@ refused-requires : tie.Need-refused-requires
 refused-requires c κs = search needs
 
 returns : tie.Need-returns
-unfolding refusal first causes stateOf
+unfolding refusal first causes ownCauses keeperCauses stateOf
 returns c =
     let x = c .before .before .before .args in
     c .refused .ensures
@@ -31,18 +32,18 @@ returns c =
 centre-of-requires : tie.Need-centre-of-requires
 centre-of-requires c κs =
     let x = c .before .before .before .args in
-    clauses (x .self) (sym (c .before .before .counts-as-started .ensures) ∙ not-false _ (c .before .if1 .left)) .edges
+    started-read (x .self) (sym (c .before .before .counts-as-started .ensures) ∙ not-false _ (c .before .if1 .left)) .edges
 
 error-of-requires : tie.Need-error-of-requires
 error-of-requires c κs =
     let x = c .before .before .before .before .args in
-    clauses (x .self) (sym (c .before .before .before .counts-as-started .ensures) ∙ not-false _ (c .before .before .if1 .left)) .edges
+    started-read (x .self) (sym (c .before .before .before .counts-as-started .ensures) ∙ not-false _ (c .before .before .if1 .left)) .edges
 
 count-of-requires : tie.Need-count-of-requires
 count-of-requires c κs = search needs
 
 returns-2 : tie.Need-returns-2
-unfolding refusal first causes stateOf accepted told
+unfolding refusal first causes ownCauses keeperCauses stateOf accepted told
 returns-2 c =
     let x = c .before .before .before .before .before .before .args in
     let m = c .before .before .centre-of in

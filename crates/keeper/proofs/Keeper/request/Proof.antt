@@ -1,142 +1,58 @@
--- `keeper::Keeper::request` meets its contract: the tests are the causes, in their order.
+-- `keeper::Keeper::request` meets its contract: where no cause holds, the peer does not wait and one more tag can be given.
 use borrow.Author.Needs.{needs}
-use borrow.Author.Tests.{not-true, not-false, eq-eqb, ne-eqb, le-leb, lt-leb}
-use mathlib.Core.Path.{refl, sym, _∙_}
+use borrow.Author.Tests.{not-false, leb-false}
+use mathlib.Core.Path.{sym, _∙_}
 use native.Mathlib.Omega.{arith}
 use Rattle.command.specs.declared.Command.the-variants as C
+use Rattle.command.specs.Causes.{ownCauses}
 use Rattle.command.proofs.LimitLaws.{board-bound}
-use Rattle.keeper.specs.State.{stateOf}
-use Rattle.keeper.specs.Refusals.{refusal, first, causes}
+use Rattle.keeper.specs.State.{stateOf, mostRequests}
+use Rattle.keeper.specs.Refusals.{keeperCauses, causes}
 use Rattle.keeper.specs.Apply.{accepted}
-use Rattle.keeper.proofs.CallLaws.{apply-refused, apply-accepted}
+use Rattle.keeper.proofs.CallLaws.{apply-accepted, apply-number-refused}
+use Rattle.keeper.proofs.Causes.{accepted-none}
 use Rattle.keeper.proofs.Keeper.request.Statement.{statement}
 use Rattle.keeper.proofs.Keeper.request.Tie as tie
 
-board-within-requires : tie.Need-board-within-requires
-board-within-requires c κs = search needs
+request-refusal-requires : tie.Need-request-refusal-requires
+request-refusal-requires c κs = search needs
 
 refused-requires : tie.Need-refused-requires
 refused-requires c κs = search needs
 
 returns : tie.Need-returns
-unfolding refusal first causes stateOf
 returns c =
     let x = c .before .before .before .args in
-    c .refused .ensures
-    ∙ sym
-    (apply-refused (x .self) (C.Request (x .peer)) 2 refl
-    (rw (sym (c .before .before .board-within .ensures) ∙ not-true _ (c .before .if1 .taken))))
+    c .refused .ensures ∙ apply-number-refused (x .self) (C.Request (x .peer)) _ (c .before .if1 .taken) (c .before .before .request-refusal .ensures)
 
-counts-as-started-requires : tie.Need-counts-as-started-requires
-counts-as-started-requires c κs = search needs
-
-refused-requires-2 : tie.Need-refused-requires-2
-refused-requires-2 c κs = search needs
-
-returns-2 : tie.Need-returns-2
-unfolding refusal first causes stateOf
-returns-2 c =
-    let x = c .before .before .before .before .before .args in
-    c .refused2 .ensures
-    ∙ sym
-    (apply-refused (x .self) (C.Request (x .peer)) 3 refl
-    (rw (
-      sym (c .before .before .before .before .board-within .ensures) ∙ not-false _ (c .before .before .before .if1 .left),
-      sym (c .before .before .counts-as-started .ensures) ∙ not-true _ (c .before .if2 .taken),
-    )))
-
-refused-requires-3 : tie.Need-refused-requires-3
-refused-requires-3 c κs = search needs
-
-returns-3 : tie.Need-returns-3
-unfolding refusal first causes stateOf
-returns-3 c =
-    let x = c .before .before .before .before .before .before .before .args in
-    c .refused3 .ensures
-    ∙ sym
-    (apply-refused (x .self) (C.Request (x .peer)) 4 refl
-    (rw (
-      sym (c .before .before .before .before .before .before .board-within .ensures) ∙ not-false _ (c .before .before .before .before .before .if1 .left),
-      sym (c .before .before .before .before .counts-as-started .ensures) ∙ not-false _ (c .before .before .before .if2 .left),
-      eq-eqb _ _ (c .before .if3 .taken),
-    )))
-
-bit-of-requires : tie.Need-bit-of-requires
-bit-of-requires c κs = search needs
-
-refused-requires-4 : tie.Need-refused-requires-4
-refused-requires-4 c κs = search needs
-
-returns-4 : tie.Need-returns-4
-unfolding refusal first causes stateOf
-returns-4 c =
-    let x = c .before .before .before .before .before .before .before .before .before .args in
-    c .refused4 .ensures
-    ∙ sym
-    (apply-refused (x .self) (C.Request (x .peer)) 6 refl
-    (rw (
-      sym (c .before .before .before .before .before .before .before .before .board-within .ensures) ∙ not-false _ (c .before .before .before .before .before .before .before .if1 .left),
-      sym (c .before .before .before .before .before .before .counts-as-started .ensures) ∙ not-false _ (c .before .before .before .before .before .if2 .left),
-      ne-eqb _ _ (c .before .before .before .if3 .left),
-      sym (c .before .before .bit-of .ensures) ∙ c .before .if4 .taken,
-    )))
-
-refused-requires-5 : tie.Need-refused-requires-5
-refused-requires-5 c κs = search needs
-
-returns-5 : tie.Need-returns-5
-unfolding refusal first causes stateOf
-returns-5 c =
-    let x = c .before .before .before .before .before .before .before .before .before .before .before .args in
-    c .refused5 .ensures
-    ∙ sym
-    (apply-refused (x .self) (C.Request (x .peer)) 9 refl
-    (rw (
-      sym (c .before .before .before .before .before .before .before .before .before .before .board-within .ensures) ∙ not-false _ (c .before .before .before .before .before .before .before .before .before .if1 .left),
-      sym (c .before .before .before .before .before .before .before .before .counts-as-started .ensures) ∙ not-false _ (c .before .before .before .before .before .before .before .if2 .left),
-      ne-eqb _ _ (c .before .before .before .before .before .if3 .left),
-      sym (c .before .before .before .before .bit-of .ensures) ∙ c .before .before .before .if4 .left,
-      le-leb _ _ (c .before .if5 .taken),
-    )))
-
-add-t7 : tie.Need-add-t7
-add-t7 c = search needs
+add-t5 : tie.Need-add-t5
+unfolding causes ownCauses keeperCauses stateOf
+add-t5 c =
+    let x = c .before .before .before .args in
+    let none = accepted-none (stateOf (x .self)) (C.Request (x .peer)) (sym (c .before .before .request-refusal .ensures) ∙ c .before .if1 .left) in
+    omega (arith, leb-false mostRequests (x .self .requests) (none .1 .1 .1 .1 .0))
 
 asked-of-requires : tie.Need-asked-of-requires
+unfolding causes ownCauses keeperCauses stateOf
 asked-of-requires c κs =
-    (board-bound _ (sym (c .before .before .before .before .before .before .before .before .before .before .board-within .ensures) ∙ not-false _ (c .before .before .before .before .before .before .before .before .before .if1 .left)), (omega arith, sym (c .before .before .before .before .bit-of .ensures) ∙ c .before .before .before .if4 .left))
+    let x = c .before .before .before .args in
+    let none = accepted-none (stateOf (x .self)) (C.Request (x .peer)) (sym (c .before .before .request-refusal .ensures) ∙ c .before .if1 .left) in
+    (board-bound _ (not-false _ (none .0)), (leb-false _ _ (none .1 .1 .1 .1 .0), none .1 .1 .1 .0))
 
-returns-6 : tie.Need-returns-6
-unfolding refusal first causes stateOf accepted
-returns-6 c =
-    let x = c .before .before .before .before .before .before .before .before .before .before .before .before .args in
+returns-2 : tie.Need-returns-2
+unfolding accepted
+returns-2 c =
+    let x = c .before .before .before .before .args in
     rw (c .asked-of .ensures)
-    (sym (apply-accepted (x .self) (C.Request (x .peer))
-    (rw (
-      sym (c .before .before .before .before .before .before .before .before .before .before .before .board-within .ensures) ∙ not-false _ (c .before .before .before .before .before .before .before .before .before .before .if1 .left),
-      sym (c .before .before .before .before .before .before .before .before .before .counts-as-started .ensures) ∙ not-false _ (c .before .before .before .before .before .before .before .before .if2 .left),
-      ne-eqb _ _ (c .before .before .before .before .before .before .if3 .left),
-      sym (c .before .before .before .before .before .bit-of .ensures) ∙ c .before .before .before .before .if4 .left,
-      lt-leb _ _ (c .before .before .if5 .left),
-    ))))
+    (sym (apply-accepted (x .self) (C.Request (x .peer)) (sym (c .before .before .before .request-refusal .ensures) ∙ c .before .before .if1 .left)))
 
 pub request-spec : {M : Type 1} → statement M
 request-spec =
     tie.close
     (tie.spec
-    board-within-requires
+    request-refusal-requires
     refused-requires
     returns
-    counts-as-started-requires
-    refused-requires-2
-    returns-2
-    refused-requires-3
-    returns-3
-    bit-of-requires
-    refused-requires-4
-    returns-4
-    refused-requires-5
-    returns-5
-    add-t7
+    add-t5
     asked-of-requires
-    returns-6)
+    returns-2)

@@ -3,116 +3,71 @@ use borrow.Author.Needs.{needs}
 use borrow.Author.Tests.{not-true, not-false}
 use mathlib.Core.Path.{refl, sym, _∙_}
 use Rattle.command.specs.declared.Command.the-variants as C
+use Rattle.command.specs.Causes.{first, ownCauses}
+use Rattle.keeper.specs.Refusals.{refusal, causes, keeperCauses}
 use Rattle.keeper.specs.State.{stateOf}
-use Rattle.keeper.specs.Refusals.{refusal, first, causes}
 use Rattle.keeper.specs.Apply.{accepted}
 use Rattle.keeper.proofs.CallLaws.{apply-refused, apply-accepted}
 use Rattle.keeper.proofs.Keeper.start.Statement.{statement}
 use Rattle.keeper.proofs.Keeper.start.Tie as tie
 
-board-within-requires : tie.Need-board-within-requires
-board-within-requires c κs = search needs
+start-within-requires : tie.Need-start-within-requires
+start-within-requires c κs = search needs
 
 refused-requires : tie.Need-refused-requires
 refused-requires c κs = search needs
 
 returns : tie.Need-returns
-unfolding refusal first causes stateOf
+unfolding refusal first causes ownCauses keeperCauses stateOf
 returns c =
     let x = c .before .before .before .args in
     c .refused .ensures
     ∙ sym
     (apply-refused (x .self) (C.Start (x .board) (x .rule) (x .claim) (x .edges)) 2 refl
-    (rw (sym (c .before .before .board-within .ensures) ∙ not-true _ (c .before .if1 .taken))))
+    (rw (sym (c .before .before .start-within .ensures) ∙ not-true _ (c .before .if1 .taken))))
 
-claim-within-requires : tie.Need-claim-within-requires
-claim-within-requires c κs = search needs
+counts-as-started-requires : tie.Need-counts-as-started-requires
+counts-as-started-requires c κs = search needs
 
 refused-requires-2 : tie.Need-refused-requires-2
 refused-requires-2 c κs = search needs
 
 returns-2 : tie.Need-returns-2
-unfolding refusal first causes stateOf
+unfolding refusal first causes ownCauses keeperCauses stateOf
 returns-2 c =
     let x = c .before .before .before .before .before .args in
     c .refused2 .ensures
     ∙ sym
-    (apply-refused (x .self) (C.Start (x .board) (x .rule) (x .claim) (x .edges)) 2 refl
-    (rw (
-      sym (c .before .before .before .before .board-within .ensures) ∙ not-false _ (c .before .before .before .if1 .left),
-      sym (c .before .before .claim-within .ensures) ∙ not-true _ (c .before .if2 .taken),
-    )))
-
-edges-within-requires : tie.Need-edges-within-requires
-edges-within-requires c κs = search needs
-
-refused-requires-3 : tie.Need-refused-requires-3
-refused-requires-3 c κs = search needs
-
-returns-3 : tie.Need-returns-3
-unfolding refusal first causes stateOf
-returns-3 c =
-    let x = c .before .before .before .before .before .before .before .args in
-    c .refused3 .ensures
-    ∙ sym
-    (apply-refused (x .self) (C.Start (x .board) (x .rule) (x .claim) (x .edges)) 2 refl
-    (rw (
-      sym (c .before .before .before .before .before .before .board-within .ensures) ∙ not-false _ (c .before .before .before .before .before .if1 .left),
-      sym (c .before .before .before .before .claim-within .ensures) ∙ not-false _ (c .before .before .before .if2 .left),
-      sym (c .before .before .edges-within .ensures) ∙ not-true _ (c .before .if3 .taken),
-    )))
-
-counts-as-started-requires : tie.Need-counts-as-started-requires
-counts-as-started-requires c κs = search needs
-
-refused-requires-4 : tie.Need-refused-requires-4
-refused-requires-4 c κs = search needs
-
-returns-4 : tie.Need-returns-4
-unfolding refusal first causes stateOf
-returns-4 c =
-    let x = c .before .before .before .before .before .before .before .before .before .args in
-    c .refused4 .ensures
-    ∙ sym
     (apply-refused (x .self) (C.Start (x .board) (x .rule) (x .claim) (x .edges)) 3 refl
     (rw (
-      sym (c .before .before .before .before .before .before .before .before .board-within .ensures) ∙ not-false _ (c .before .before .before .before .before .before .before .if1 .left),
-      sym (c .before .before .before .before .before .before .claim-within .ensures) ∙ not-false _ (c .before .before .before .before .before .if2 .left),
-      sym (c .before .before .before .before .edges-within .ensures) ∙ not-false _ (c .before .before .before .if3 .left),
-      sym (c .before .before .counts-as-started .ensures) ∙ c .before .if4 .taken,
+      sym (c .before .before .before .before .start-within .ensures) ∙ not-false _ (c .before .before .before .if1 .left),
+      sym (c .before .before .counts-as-started .ensures) ∙ c .before .if2 .taken,
     )))
 
 begun-with-requires : tie.Need-begun-with-requires
 begun-with-requires c κs = search needs
 
-returns-5 : tie.Need-returns-5
-unfolding refusal first causes stateOf accepted
-returns-5 c =
-    let x = c .before .before .before .before .before .before .before .before .before .args in
+returns-3 : tie.Need-returns-3
+unfolding refusal first causes ownCauses keeperCauses stateOf accepted
+returns-3 c =
+    let x = c .before .before .before .before .before .args in
     rw (c .begun-with .ensures)
-    (sym (apply-accepted (x .self) (C.Start (x .board) (x .rule) (x .claim) (x .edges))
+    (sym
+    (apply-accepted (x .self) (C.Start (x .board) (x .rule) (x .claim) (x .edges))
     (rw (
-      sym (c .before .before .before .before .before .before .before .before .board-within .ensures) ∙ not-false _ (c .before .before .before .before .before .before .before .if1 .left),
-      sym (c .before .before .before .before .before .before .claim-within .ensures) ∙ not-false _ (c .before .before .before .before .before .if2 .left),
-      sym (c .before .before .before .before .edges-within .ensures) ∙ not-false _ (c .before .before .before .if3 .left),
-      sym (c .before .before .counts-as-started .ensures) ∙ c .before .if4 .left,
+      sym (c .before .before .before .before .start-within .ensures) ∙ not-false _ (c .before .before .before .if1 .left),
+      sym (c .before .before .counts-as-started .ensures) ∙ c .before .if2 .left,
     ))))
 
 pub start-spec : {M : Type 1} → statement M
 start-spec =
     tie.close
     (tie.spec
-    board-within-requires
+    start-within-requires
     refused-requires
     returns
-    claim-within-requires
+    counts-as-started-requires
     refused-requires-2
     returns-2
-    edges-within-requires
-    refused-requires-3
-    returns-3
-    counts-as-started-requires
-    refused-requires-4
-    returns-4
     begun-with-requires
-    returns-5)
+    returns-3)

@@ -4,7 +4,8 @@ use borrow.Author.Tests.{not-true, not-false}
 use mathlib.Core.Path.{refl, sym, _∙_}
 use Rattle.command.specs.declared.Command.the-variants as C
 use Rattle.keeper.specs.State.{stateOf}
-use Rattle.keeper.specs.Refusals.{refusal, first, causes}
+use Rattle.command.specs.Causes.{first, ownCauses}
+use Rattle.keeper.specs.Refusals.{refusal, causes, keeperCauses}
 use Rattle.keeper.specs.Apply.{accepted}
 use Rattle.keeper.proofs.CallLaws.{apply-refused, apply-accepted}
 use Rattle.keeper.proofs.Keeper.waiting.Statement.{statement}
@@ -17,7 +18,7 @@ refused-requires : tie.Need-refused-requires
 refused-requires c κs = search needs
 
 returns : tie.Need-returns
-unfolding refusal first causes stateOf
+unfolding refusal first causes ownCauses keeperCauses stateOf
 returns c =
     let x = c .before .before .before .args in
     c .refused .ensures
@@ -26,7 +27,7 @@ returns c =
     (rw (sym (c .before .before .counts-as-started .ensures) ∙ not-true _ (c .before .if1 .taken))))
 
 returns-2 : tie.Need-returns-2
-unfolding refusal first causes stateOf accepted
+unfolding refusal first causes ownCauses keeperCauses stateOf accepted
 returns-2 c =
     let x = c .before .before .args in
     sym (apply-accepted (x .self) C.Waiting (rw (sym (c .before .counts-as-started .ensures) ∙ not-false _ (c .if1 .left))))

@@ -2,7 +2,7 @@
 use borrow.Author.Needs.{needs}
 use borrow.Author.Tests.{not-true, not-false, le-leb, lt-leb}
 use mathlib.Core.Path.{sym, _∙_}
-use Rattle.keeper.specs.Numbers.{numbersKept}
+use Rattle.keeper.specs.State.{numbersKept}
 use Rattle.keeper.proofs.started.numbers_kept.Statement.{statement}
 use Rattle.keeper.proofs.started.numbers_kept.Tie as tie
 

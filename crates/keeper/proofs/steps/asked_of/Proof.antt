@@ -1,8 +1,8 @@
 -- `keeper::steps::asked_of` meets its contract: a bit that is not set leaves room for its power.
 use borrow.Author.Needs.{needs}
 use native.Mathlib.Omega.{arith}
-use Rattle.keeper.specs.Apply.{asked}
-use Rattle.keeper.proofs.Bits.{bit-room}
+use Rattle.keeper.specs.Apply.{changed, asked}
+use Rattle.bits.proofs.BitLaws.{bit-room}
 use Rattle.keeper.proofs.steps.asked_of.Statement.{statement}
 use Rattle.keeper.proofs.steps.asked_of.Tie as tie
 
@@ -33,7 +33,7 @@ add-next-2 c =
     omega (arith, c .before .bit .ensures, bit-room 16 (x .keeper .waiting) (x .peer) (omega arith) (omega arith) (c .before .before .before .before .before .before .pre .1 .1))
 
 returns : tie.Need-returns
-unfolding asked
+unfolding asked changed
 returns c =
     rw (c .before .bit .ensures)
 

@@ -1,8 +1,8 @@
 -- `keeper::steps::ended_with` meets its contract: a bit that is set is at most the mask.
 use borrow.Author.Needs.{needs}
 use native.Mathlib.Omega.{arith}
-use Rattle.keeper.specs.Apply.{ended}
-use Rattle.keeper.proofs.Bits.{bit-le}
+use Rattle.keeper.specs.Apply.{changed, ended}
+use Rattle.bits.proofs.BitLaws.{bit-le}
 use Rattle.keeper.proofs.steps.ended_with.Statement.{statement}
 use Rattle.keeper.proofs.steps.ended_with.Tie as tie
 
@@ -27,7 +27,7 @@ sub-next c =
     omega (arith, c .before .bit .ensures, bit-le (x .keeper .waiting) (x .peer) (c .before .before .before .before .pre .1))
 
 returns : tie.Need-returns
-unfolding ended
+unfolding ended changed
 returns c =
     rw (c .before .bit .ensures)
 

@@ -38,20 +38,20 @@ use denote.Triple.Table.{entered, cited}
 use denote.Triple.Walked.{says, Stays, stay-none, walkOf, goes-none, Walks, ends-at, walked, walk-meets}
 use denote.Exit.{yes}
 use denote.Triple.Clauses.{ensured, lasts}
-use Rattle.reader.specs.Reading.{restOf}
+use Rattle.shapes.specs.Shapes.{restOf}
 use Rattle.reader.specs.declared.walk.Walk.{Walk}
-use Rattle.reader.specs.declared.shapes.FormWord.{FormWord}
+use Rattle.shapes.specs.declared.FormWord.{FormWord}
 use Rattle.command.specs.declared.Reading.{Reading}
 use Rattle.reader.proofs.Held.{B, D, L, walk-vals, line-val, OwnWalk, OwnLine, line-too}
 use Rattle.reader.proofs.walk.Walk.Laws as T′
-use Rattle.reader.proofs.shapes.FormWord as F
-use Rattle.reader.proofs.shapes.FormWord.Laws as F′
+use Rattle.shapes.proofs.FormWord as F
+use Rattle.shapes.proofs.FormWord.Laws as F′
 use Rattle.command.proofs.Reading as S
 use Rattle.command.proofs.Reading.Laws as S′
-use Rattle.reader.proofs.shapes.parts_from as callee
-use Rattle.reader.proofs.shapes.parts_from.Symbol as callee-def
-use Rattle.reader.proofs.shapes.parts_from.Symbol.{name as #reader·parts-from}
-use Rattle.reader.proofs.shapes.parts_from.Met as callee-thm
+use Rattle.shapes.proofs.parts_from as callee
+use Rattle.shapes.proofs.parts_from.Symbol as callee-def
+use Rattle.shapes.proofs.parts_from.Symbol.{name as #shapes·parts-from}
+use Rattle.shapes.proofs.parts_from.Met as callee-thm
 use Rattle.reader.proofs.walk.rest.Key.{name as #reader·rest}
 use Rattle.reader.proofs.walk.rest as rest
 use Rattle.reader.proofs.walk.rest.Statement as stated
@@ -114,7 +114,7 @@ module _ {M : Type 1} (𝓤 : URA M) (H : Heap 𝓤) (A : Atoms 𝓤) (W : Given
       suffices ! _ (ends-at 𝓤 H A rest.ended stayed (rest.clauses 𝓤 H A mem run) W (((κ, tt), (q, tt), tt, (d, (w, tt)), at), tt) u′ r (tt, (tt, tt)) (tt, (tt, tt))) $ says ! e $
       move ! (1 ∷ []) $ frame ! $ nothing ! $ owned ! F.the-row (Is F.the-row) (EL.makes F.the-type F′.the-plain 𝓤 H A) w _ isw $ fjoin ! $ move ! (2 ∷ 0 ∷ []) $ fjoin ! $ frame ! $ done !
 
-  module _ (C : Calls 𝓤 H) (Λ : Loops 𝓤 H) (fm : FmC 𝓤 H (W .laws) C) (known : Triple 𝓤 (C #reader·parts-from) (PartsFrom 𝓤 H A mem run)) where
+  module _ (C : Calls 𝓤 H) (Λ : Loops 𝓤 H) (fm : FmC 𝓤 H (W .laws) C) (known : Triple 𝓤 (C #shapes·parts-from) (PartsFrom 𝓤 H A mem run)) where
     walk : Holds (hasTy (T′.mir (named 0)) mach) × WT mach → ent 𝓤 (onEntry 𝓤 H A rest.signature (κ, tt) (q, tt) (d, (w, tt)) at) (WpFn 𝓤 H C Λ code.function (mach ∷ u ∷ []) Post)
     walk wt =
         qed W (raw (onEntry 𝓤 H A rest.signature (κ, tt) (q, tt) (d, (w, tt)) at) ∷ []) ∵ enter ! C Λ code.function (mach ∷ u ∷ []) _ $
@@ -132,13 +132,13 @@ module _ {M : Type 1} (𝓤 : URA M) (H : Heap 𝓤) (A : Atoms 𝓤) (W : Given
         move ! (11 ∷ 12 ∷ []) $ free1 ! $ move ! (9 ∷ 10 ∷ []) $ free1 ! $ move ! (7 ∷ 8 ∷ []) $ free1 ! $ move ! (5 ∷ 6 ∷ []) $ free1 ! $ move ! (3 ∷ 4 ∷ []) $ free1 ! $ free0 ! $ by ! (exits r u′ e))))))))))
 
 module _ {M : Type 1} (𝓤 : URA M) (H : Heap 𝓤) (A : Atoms 𝓤) (W : Given 𝓤 H A) (mem : Memory → SProp 𝓤) (run : Routine → Fun 𝓤) where
-  rest-walks : (C : Calls 𝓤 H) (Λ : Loops 𝓤 H) → FmC 𝓤 H (W .laws) C → Triple 𝓤 (C #reader·parts-from) (PartsFrom 𝓤 H A mem run)
+  rest-walks : (C : Calls 𝓤 H) (Λ : Loops 𝓤 H) → FmC 𝓤 H (W .laws) C → Triple 𝓤 (C #shapes·parts-from) (PartsFrom 𝓤 H A mem run)
       → Walks 𝓤 H A rest.ended stayed (WpFn 𝓤 H C Λ code.function) (rest.clauses 𝓤 H A mem run)
   rest-walks C Λ fm known = walked 𝓤 H A rest.ended stayed (rest.clauses 𝓤 H A mem run) (WpFn 𝓤 H C Λ code.function) (λ κs. (walk-vals κs, (EL.vals F.the-type F′.the-laws, tt))) (λ κs. (LL.tells (D (κs .0)) (L (κs .0)), (EL.tells F.the-type F′.the-laws, tt)))
       (λ κs qs bounds a g are. via 𝓤 _ (fst∗ 𝓤 _ (emp 𝓤)) (walk 𝓤 H A W mem run (κs .0) (qs .0) (a .0) (a .1 .0) (are .1 .0) C Λ fm known (LL.lawful (D (κs .0)) (L (κs .0)) 𝓤 H A W .typed (a .0) _ (are .0) .0)))
 
 rest-meets : {M : Type 1} (𝓤 : URA M) (H : Heap 𝓤) (A : Atoms 𝓤) (W : Given 𝓤 H A) (mem : Memory → SProp 𝓤) (run : Routine → Fun 𝓤) (𝓣 : Tables 𝓤 H)
-    → Triple 𝓤 (𝓣 .C #reader·parts-from) (PartsFrom 𝓤 H A mem run)
+    → Triple 𝓤 (𝓣 .C #shapes·parts-from) (PartsFrom 𝓤 H A mem run)
     → Meets 𝓤 H A rest.signature (WpFn 𝓤 H (𝓣 .C) (𝓣 .Λ) code.function) (rest.spec 𝓤 H A mem run)
 rest-meets 𝓤 H A W mem run 𝓣 known = walk-meets 𝓤 H A rest.ended stayed W (goes-none 𝓤 H A W 1 B yes (λ κs x f. refl), (goes-none 𝓤 H A W 1 (λ _. F.the-row) yes (λ κs x f. refl), tt)) (rest.clauses 𝓤 H A mem run) (WpFn 𝓤 H (𝓣 .C) (𝓣 .Λ) code.function) (WpFn-mono 𝓤 H (W .laws) 𝓣 code.function)
     (rest-walks 𝓤 H A W mem run (𝓣 .C) (𝓣 .Λ) (fmOf 𝓤 H (W .laws) 𝓣) known)
@@ -149,4 +149,4 @@ rest-spec 𝓤 H 𝓜 𝓖 𝓡 =
     entered 𝓤 H (tripleOf 𝓤 H (𝓖 .A) rest.signature (rest.spec 𝓤 H (𝓖 .A) (𝓜 .mem) (𝓡 .run)))
     (tables 𝓤 H 𝓜 𝓡 code.env .C) (tables 𝓤 H 𝓜 𝓡 code.env .Λ) #reader·rest code.function (code.unfolded 𝓤 H 𝓜 𝓡)
     (rest-meets 𝓤 H (𝓖 .A) (givenOf 𝓤 H 𝓜 𝓖) (𝓜 .mem) (𝓡 .run) (tablesOf 𝓤 H 𝓜 (tables 𝓤 H 𝓜 𝓡 code.env))
-    (cited 𝓤 H (PartsFrom 𝓤 H (𝓖 .A) (𝓜 .mem) (𝓡 .run)) 𝓜 𝓡 code.env #reader·parts-from callee-def.routine code.calls-reader·shapes·parts-from (callee-thm.met 𝓤 H 𝓜 𝓖 𝓡)))
+    (cited 𝓤 H (PartsFrom 𝓤 H (𝓖 .A) (𝓜 .mem) (𝓡 .run)) 𝓜 𝓡 code.env #shapes·parts-from callee-def.routine code.calls-shapes·parts-from (callee-thm.met 𝓤 H 𝓜 𝓖 𝓡)))

@@ -38,15 +38,15 @@ use denote.Exit.{yes}
 use denote.Triple.Clauses.{ensured, lasts}
 use Rattle.reader.specs.Reading.{wordFrom}
 use Rattle.reader.specs.declared.walk.Walk.{Walk}
-use Rattle.reader.specs.declared.shapes.WordAt.{WordAt}
+use Rattle.reader.specs.declared.words.WordAt.{WordAt}
 use Rattle.reader.proofs.Held.{B, D, L, walk-vals, line-val, OwnWalk, OwnLine, line-too}
 use Rattle.reader.proofs.walk.Walk.Laws as T′
-use Rattle.reader.proofs.shapes.WordAt as S
-use Rattle.reader.proofs.shapes.WordAt.Laws as S′
-use Rattle.reader.proofs.shapes.form_word as callee
-use Rattle.reader.proofs.shapes.form_word.Symbol as callee-def
-use Rattle.reader.proofs.shapes.form_word.Symbol.{name as #reader·form-word}
-use Rattle.reader.proofs.shapes.form_word.Met as callee-thm
+use Rattle.reader.proofs.words.WordAt as S
+use Rattle.reader.proofs.words.WordAt.Laws as S′
+use Rattle.reader.proofs.words.form_word as callee
+use Rattle.reader.proofs.words.form_word.Symbol as callee-def
+use Rattle.reader.proofs.words.form_word.Symbol.{name as #reader·form-word}
+use Rattle.reader.proofs.words.form_word.Met as callee-thm
 use Rattle.reader.proofs.walk.word.Key.{name as #reader·word}
 use Rattle.reader.proofs.walk.word as word
 use Rattle.reader.proofs.walk.word.Statement as stated
@@ -137,4 +137,4 @@ word-spec 𝓤 H 𝓜 𝓖 𝓡 =
     entered 𝓤 H (tripleOf 𝓤 H (𝓖 .A) word.signature (word.spec 𝓤 H (𝓖 .A) (𝓜 .mem) (𝓡 .run)))
     (tables 𝓤 H 𝓜 𝓡 code.env .C) (tables 𝓤 H 𝓜 𝓡 code.env .Λ) #reader·word code.function (code.unfolded 𝓤 H 𝓜 𝓡)
     (word-meets 𝓤 H (𝓖 .A) (givenOf 𝓤 H 𝓜 𝓖) (𝓜 .mem) (𝓡 .run) (tablesOf 𝓤 H 𝓜 (tables 𝓤 H 𝓜 𝓡 code.env))
-    (cited 𝓤 H (FormWord 𝓤 H (𝓖 .A) (𝓜 .mem) (𝓡 .run)) 𝓜 𝓡 code.env #reader·form-word callee-def.routine code.calls-reader·shapes·form-word (callee-thm.met 𝓤 H 𝓜 𝓖 𝓡)))
+    (cited 𝓤 H (FormWord 𝓤 H (𝓖 .A) (𝓜 .mem) (𝓡 .run)) 𝓜 𝓡 code.env #reader·form-word callee-def.routine code.calls-reader·words·form-word (callee-thm.met 𝓤 H 𝓜 𝓖 𝓡)))

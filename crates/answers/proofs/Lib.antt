@@ -1,0 +1,3 @@
+-- Laws of the writer.
+pub mod LineLaws
+pub mod WaitersLaws

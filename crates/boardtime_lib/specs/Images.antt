@@ -1,0 +1,48 @@
+-- What the library promises of a lent image, for every image, line, output and number.
+use mathlib.Core.Path.{_≡_}
+use mathlib.Core.List.{List}
+use Prim.Native.Nat.{ℕ, _+_, _*_}
+use lib.Dec.{eqb}
+use lib.ListN.{length}
+use Rattle.bits.specs.Choice.{choose}
+use Rattle.command.specs.declared.Command.the-variants as C
+use Rattle.keeper.specs.State.{fresh}
+use Rattle.keeper.specs.Apply.{apply, numberOf}
+use Rattle.keeper.specs.declared.Keeper.{Keeper}
+use Rattle.line.specs.Call.{Called}
+use Rattle.image.specs.Layout.{imageLength, imageOf, keeperIn}
+
+-- The number for a buffer that has not the length of an image.
+abbrev pub wrongLength : ℕ
+wrongLength = 255
+
+-- A buffer that has not the length of an image is refused and touched by nothing.
+pub record Refused (image : List ℕ) (number : ℕ) (after : List ℕ) : Type 0 where
+  pub number-is : number ≡ wrongLength
+  pub image-is : after ≡ image
+
+-- The image after a call: that of the keeper that the call gives; a refused call leaves every byte as it was.
+unfoldable pub imageLeft : List ℕ → ℕ → Keeper → List ℕ
+imageLeft before number k = choose (eqb number 0) (λ _. imageOf k) (λ _. before)
+
+pub record FreshImage (image : List ℕ) (r : ℕ) (image′ : List ℕ) : Type 0 where
+  pub other-length : (length image ≡ imageLength → ⊥) → Refused image r image′
+  pub stored : length image ≡ imageLength → (r ≡ 0) × (image′ ≡ imageOf fresh)
+
+-- The keeper is the one that stands in the image; number, keeper, output and length are those of the call with a line.
+pub record Answered (image line out : List ℕ) (r : ℕ) (image′ out′ : List ℕ) : Type 0 where
+  pub number : ℕ
+  pub keeper : Keeper
+  pub written : ℕ
+  pub call : Called (keeperIn image) line out number keeper out′ written
+  pub returned : r ≡ number + 256 * written
+  pub image-is : image′ ≡ imageLeft image number keeper
+
+pub record LineImage (image line out : List ℕ) (r : ℕ) (image′ out′ : List ℕ) : Type 0 where
+  pub other-length : (length image ≡ imageLength → ⊥) → Refused image r image′ × (out′ ≡ out)
+  pub answered : length image ≡ imageLength → Answered image line out r image′ out′
+
+pub record PassImage (image : List ℕ) (ticks r : ℕ) (image′ : List ℕ) : Type 0 where
+  pub other-length : (length image ≡ imageLength → ⊥) → Refused image r image′
+  pub number-is : length image ≡ imageLength → r ≡ numberOf (apply (keeperIn image) (C.Pass ticks) .answer)
+  pub image-is : length image ≡ imageLength → image′ ≡ imageLeft image r (apply (keeperIn image) (C.Pass ticks) .keeper)

@@ -1,0 +1,2 @@
+-- Laws of a lent keeper.
+pub mod LentLaws

@@ -1,0 +1,3 @@
+-- Laws of the tests of the peers.
+pub mod Masks
+pub mod PeerLaws

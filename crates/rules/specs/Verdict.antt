@@ -1,0 +1,43 @@
+-- What a reply comes to: document 01, 'Reply'. One definition, by which the causes of a refusal, what an accepted reply does, the log and
+-- courses go.
+use mathlib.Core.Bool.{Bool, true, false, not, _&&_}
+use lib.IntN.{ℤ}
+use Rattle.bits.specs.Choice.{choose}
+use Rattle.moment.specs.Intervals.{bothInRange}
+use Rattle.moment.specs.declared.Interval.{Interval}
+use Rattle.rules.specs.Rules.{conflicting, narrowed, noWider, adopted}
+use Rattle.rules.specs.declared.Rule.{Rule}
+use Rattle.rules.specs.declared.Rule.the-variants.{Im, Mm}
+use Rattle.rules.specs.declared.Finding.{Finding}
+use Rattle.rules.specs.declared.Finding.the-variants.{Conflict, Taken, Kept}
+use Rattle.rules.specs.declared.Verdict.{Verdict}
+
+abbrev pub verdict : Finding → Interval → Verdict
+verdict finding edges = record { finding = finding; edges = edges }
+
+-- 'rule im: the new edges are the larger lower and the smaller upper .. Answered `taken`. rule mm: if [it is no wider] the new edges are [the
+-- reply's, moved outward], answered `taken`; if not, the keeper's edges stay, answered `kept`.'
+unfoldable pub judgedBy : Rule → Interval → ℤ → Interval → Interval → Verdict
+judgedBy Im b span reply edges = verdict Taken (narrowed b edges)
+judgedBy Mm b span reply edges =
+    choose (noWider span reply edges) (λ _. verdict Taken (adopted span reply)) (λ _. verdict Kept edges)
+
+-- The verdict on a reply, from the rule, the reply's bracket, the span that its edges are moved outward by, its edges, and the keeper's.
+-- 'If the bracket and the keeper's own edges share no moment, conflict: .. the edges stay'; this comes before the rule.
+unfoldable pub judged : Rule → Interval → ℤ → Interval → Interval → Verdict
+judged rule b span reply edges =
+    choose (conflicting b edges) (λ _. verdict Conflict edges) (λ _. judgedBy rule b span reply edges)
+
+abbrev pub isTaken : Finding → Bool
+isTaken Conflict = false
+isTaken Taken = true
+isTaken Kept = false
+
+abbrev pub isConflict : Finding → Bool
+isConflict Conflict = true
+isConflict Taken = false
+isConflict Kept = false
+
+-- Refusal 5 of a reply: one taken whose edges leave the range.
+unfoldable pub leaves : Verdict → Bool
+leaves v = isTaken (v .finding) && not (bothInRange (v .edges))

@@ -1,0 +1,92 @@
+// The rules as functions on edges. Those that ask for something are called by the keeper alone, which has tested it before.
+use moment::Interval;
+use moment::floor_half;
+use moment::intervals::Bounds;
+use moment::intervals::move_edges;
+use moment::larger;
+use moment::longest_span;
+use moment::shortest_span;
+use moment::smaller;
+ghost use mathlib.Core.Path.{_≡_};
+ghost use mathlib.Core.Bool.{true};
+ghost use Prim.Native.Nat.{_≤_};
+ghost use Rattle.moment.specs.Intervals.{edgesWithin, placed};
+ghost use Rattle.rules.specs.Rules.{widened, longestWait, bracket, narrowed, outward, noWider, adopted, centre, errorOf};
+ghost use Rattle.rules.specs.Spans.{Span};
+
+// Pass: the lower edge gains the shortest ticks and the upper the longest.
+pub fn widen(claim: u16, ticks: u32, edges: Interval) -> Bounds
+    ensures { λ r. ⌜ r ≡ placed (widened claim ticks edges) ⌝ }
+{
+    let lower_by = shortest_span(ticks, claim);
+    let upper_by = longest_span(ticks, claim);
+    move_edges(edges, lower_by, upper_by)
+}
+
+// The bracket of a reply: its leading edge gains the wait.
+pub fn bracket_of(claim: u16, w: u32, reply: Interval) -> Interval
+    requires { ⌜ w ≤ longestWait ⌝ }
+    requires { ⌜ edgesWithin reply ≡ true ⌝ }
+    ensures { λ r. ⌜ r ≡ bracket claim w reply ⌝ }
+{
+    let span = longest_span(w, claim);
+    Interval {
+        lower: reply.lower,
+        upper: reply.upper + span,
+    }
+}
+
+// Rule im: the larger lower and the smaller upper edge.
+pub fn narrow(bracket: Interval, edges: Interval) -> Interval
+    ensures { λ r. ⌜ r ≡ narrowed bracket edges ⌝ }
+{
+    Interval {
+        lower: larger(bracket.lower, edges.lower),
+        upper: smaller(bracket.upper, edges.upper),
+    }
+}
+
+// Rule mm: how far the wait moves each edge of a reply.
+pub fn outward_span(claim: u16, w: u32) -> i64
+    ensures { λ r. ⌜ r ≡ outward claim w ⌝ }
+{
+    longest_span(w, claim)
+}
+
+// Rule mm: whether the reply, with the span on either side, is no wider than the edges.
+pub fn no_wider(span: i64, reply: Interval, edges: Interval) -> bool
+    requires { ⌜ Span span ⌝ }
+    requires { ⌜ edgesWithin reply ≡ true ⌝ }
+    requires { ⌜ edgesWithin edges ≡ true ⌝ }
+    ensures { λ r. ⌜ r ≡ noWider span reply edges ⌝ }
+{
+    let wide = (reply.upper - reply.lower) + (span + span);
+    wide <= edges.upper - edges.lower
+}
+
+// Rule mm: both edges moved outward.
+pub fn adopt(span: i64, reply: Interval) -> Interval
+    requires { ⌜ Span span ⌝ }
+    requires { ⌜ edgesWithin reply ≡ true ⌝ }
+    ensures { λ r. ⌜ r ≡ adopted span reply ⌝ }
+{
+    Interval {
+        lower: reply.lower - span,
+        upper: reply.upper + span,
+    }
+}
+
+pub fn centre_of(edges: Interval) -> i64
+    requires { ⌜ edgesWithin edges ≡ true ⌝ }
+    ensures { λ r. ⌜ r ≡ centre edges ⌝ }
+{
+    floor_half(edges.lower + edges.upper)
+}
+
+pub fn error_of(edges: Interval) -> i64
+    requires { ⌜ edgesWithin edges ≡ true ⌝ }
+    ensures { λ r. ⌜ r ≡ errorOf edges ⌝ }
+{
+    let centre = centre_of(edges);
+    edges.upper - centre
+}

@@ -1,0 +1,58 @@
+-- `shapes::parts_from` meets its contract: each word is followed by the parts of its kind.
+use Rattle.shapes.specs.Shapes.{restOf}
+use borrow.Author.Needs.{needs}
+use Rattle.shapes.proofs.parts_from.Statement.{statement}
+use Rattle.shapes.proofs.parts_from.Tie as tie
+
+enum-known-word : tie.Need-enum-known-word
+enum-known-word c = search needs
+
+edged-form-requires : tie.Need-edged-form-requires
+edged-form-requires c κs = search needs
+
+enum-known-word-2 : tie.Need-enum-known-word-2
+enum-known-word-2 c = search needs
+
+numbered-form-requires : tie.Need-numbered-form-requires
+numbered-form-requires c κs = search needs
+
+enum-known-word-3 : tie.Need-enum-known-word-3
+enum-known-word-3 c = search needs
+
+bare-form-requires : tie.Need-bare-form-requires
+bare-form-requires c κs = search needs
+
+enum-told : tie.Need-enum-told
+enum-told c = search needs
+
+returns : tie.Need-returns
+unfolding restOf
+returns c = rw (c .before .before .word .given .1) (c .edged-form .ensures)
+
+returns-2 : tie.Need-returns-2
+unfolding restOf
+returns-2 c = rw (c .before .before .word2 .given .1) (c .numbered-form .ensures)
+
+returns-3 : tie.Need-returns-3
+unfolding restOf
+returns-3 c = rw (c .before .before .word3 .given .1) (c .bare-form .ensures)
+
+returns-4 : tie.Need-returns-4
+unfolding restOf
+returns-4 c = rw (c .enum-told .given .1)
+
+pub parts-from-spec : {M : Type 1} → statement M
+parts-from-spec =
+    tie.close
+    (tie.spec
+    enum-known-word
+    edged-form-requires
+    enum-known-word-2
+    numbered-form-requires
+    enum-known-word-3
+    bare-form-requires
+    enum-told
+    returns
+    returns-2
+    returns-3
+    returns-4)

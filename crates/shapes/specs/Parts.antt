@@ -1,0 +1,17 @@
+-- The values of what the part readers answer.
+use mathlib.Core.Option.{Option, none, some}
+use Rattle.command.specs.Edges.{edgeValue}
+use Rattle.shapes.specs.Shapes.{Values, lastEdges, lastNumber}
+use Rattle.shapes.specs.declared.parts.Edges.{Edges}
+use Rattle.shapes.specs.declared.parts.Edges.the-variants as E
+use Rattle.shapes.specs.declared.parts.LastNumber.{LastNumber}
+use Rattle.shapes.specs.declared.parts.LastNumber.the-variants as L
+
+-- The values of the parts that end a line.
+abbrev pub edgesRead : Edges → Option (Values lastEdges)
+edgesRead (E.Of lower upper) = some (edgeValue lower, (edgeValue upper, tt))
+edgesRead E.Absent = none
+
+abbrev pub numberRead : LastNumber → Option (Values lastNumber)
+numberRead (L.Of n) = some (n, tt)
+numberRead L.Absent = none

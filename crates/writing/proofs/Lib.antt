@@ -1,0 +1,2 @@
+-- Laws of writes.
+pub mod PutsLaws

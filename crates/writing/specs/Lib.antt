@@ -1,0 +1,2 @@
+-- Writes one after the other.
+pub mod Puts
