@@ -8,7 +8,7 @@ use lib.ListN.{length}
 use native.Mathlib.Omega.{arith}
 use Rattle.command.specs.Limits.{ticksWithin}
 use Rattle.command.specs.declared.Command.the-variants as C
-use Rattle.keeper.specs.State.{fresh}
+use Rattle.keeper.specs.State.{fresh, stateOf}
 use Rattle.command.specs.Causes.{first, ownCauses}
 use Rattle.keeper.specs.Refusals.{refusal, causes}
 use Rattle.keeper.specs.Apply.{apply, numberOf, outcomeOf}
@@ -16,6 +16,7 @@ use Rattle.keeper.specs.declared.Answer.the-variants as A
 use Rattle.keeper.proofs.CallLaws.{apply-refused}
 use Rattle.keeper.specs.declared.Keeper.{Keeper}
 use Rattle.keeper.specs.declared.Outcome.{Outcome}
+use Rattle.lent.specs.Lent.{PassLent}
 use Rattle.line.specs.Call.{Called}
 use Rattle.image.specs.Layout.{imageLength, imageOf, imageAfter, keeperIn}
 use Rattle.boardtime_lib.specs.Images.{wrongLength, Refused, imageLeft, FreshImage, LineImage, PassImage}
@@ -62,13 +63,13 @@ module _ (image : List ℕ) (whole : length image ≡ imageLength) where
         answered = λ _. record { number = number; keeper = _; written = n; call = rw e at call; returned = refl; image-is = left };
       }
 
-  pub pass-moved : {image′ : List ℕ} {k : Keeper} {ticks number : ℕ} {o : Outcome} → k ≡ keeperIn image → o ≡ apply k (C.Pass ticks) → number ≡ numberOf (o .answer)
-      → image′ ≡ imageLeft image number (o .keeper) → PassImage image ticks number image′
-  pass-moved e f g left = record { other-length = λ h. absurd (h whole); number-is = λ _. rw (f, e) at g; image-is = λ _. rw (f, e) at left }
+  pub pass-moved : {image′ : List ℕ} {k next : Keeper} {ticks number r : ℕ} → k ≡ keeperIn image → PassLent k ticks number next → r ≡ number
+      → image′ ≡ imageLeft image r next → PassImage image ticks r image′
+  pass-moved e lent f left = record { other-length = λ h. absurd (h whole); number-is = λ _. f ∙ rw e at lent .number-is; image-is = λ _. rw (lent .keeper-is, e) at left }
 
   -- a number of ticks above the limit: the second cause is the first that can hold of a pass
   pub pass-too-long : (ticks : ℕ) → ticksWithin ticks ≡ false → PassImage image ticks 2 image
-  unfolding refusal first causes ownCauses
+  unfolding refusal first causes stateOf ownCauses
   pass-too-long ticks outside =
       let too-long : apply (keeperIn image) (C.Pass ticks) ≡ outcomeOf (A.Refused 2) (keeperIn image) =
       apply-refused (keeperIn image) (C.Pass ticks) 2 refl (rw outside)

@@ -5,7 +5,7 @@ use image::is_image;
 use image::load::load;
 use image::store::store;
 use keeper::Keeper;
-use keeper::answers::number_of;
+use lent::pass;
 use line::call;
 ghost use mathlib.Core.Path.{_≡_};
 ghost use Rattle.boardtime_lib.specs.Images.{FreshImage, LineImage, PassImage};
@@ -60,10 +60,9 @@ pub extern "C" fn boardtime_pass(image: &mut [u8], ticks: u64) -> u8
     if !ticks_within(ticks) {
         return OUTSIDE_LIMITS;
     }
-    let outcome = load(image).pass(ticks as u32);
-    let answer = outcome.answer;
-    let next = outcome.keeper;
-    let refusal = number_of(answer);
+    let passed = pass(load(image), ticks as u32);
+    let refusal = passed.number;
+    let next = passed.keeper;
     if refusal != 0 {
         return refusal;
     }

@@ -2,11 +2,9 @@
 use mathlib.Core.Path.{_≡_, refl}
 use mathlib.Core.Logic.{_↔_, _⊎_, inl, inr}
 use Prim.Native.Nat.{ℕ, _+_}
-use native.Mathlib.Nat.{add-zero}
 use native.Mathlib.Omega.{arith}
-use Rattle.bits.specs.Below.{one}
 use Rattle.moment.specs.declared.Interval.{Interval}
-use Rattle.rules.specs.Verdict.{isConflict}
+use Rattle.rules.specs.Verdict.{conflictsAfter}
 use Rattle.rules.specs.declared.Finding.{Finding}
 use Rattle.rules.specs.declared.Finding.the-variants.{Conflict, Taken, Kept}
 use Rattle.command.specs.declared.Command.{Command}
@@ -39,11 +37,11 @@ neither {taken} {conflicts} none = (λ b. absurd (none (rw (b .1) tt)), λ s. ab
     go (inr h) = omega arith
 
 finding-counted : (finding : Finding) (l : Log) (peer : ℕ) (b edges : Interval)
-    → CountedBy (repliedEvent finding b) l (logCounted finding l (logEnded (l .state) peer edges (l .state .conflicts + one (isConflict finding))))
+    → CountedBy (repliedEvent finding b) l (logCounted finding l (logEnded (l .state) peer edges (conflictsAfter (l .state .conflicts) finding)))
 unfolding logEnded stateWith
 finding-counted Conflict l peer b edges = (λ h. inr refl, λ s. (b, refl))
 finding-counted Taken l peer b edges = (λ h. inl refl, λ s. (b, refl))
-finding-counted Kept l peer b edges = rw (add-zero (l .state .conflicts)) (neither (λ n. n))
+finding-counted Kept l peer b edges = neither (λ n. n)
 
 command-counted : (l : Log) (c : Command) → CountedBy (commandEvent (l .state) c) l (logAccepted l c)
 unfolding logAccepted logStarted stateWith logPassed logAsked logEnded logReplied

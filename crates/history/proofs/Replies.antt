@@ -5,10 +5,9 @@ use Prim.Native.Nat.{ℕ, _+_, _<_}
 use native.Mathlib.Omega.{arith}
 use lib.IntN.{ℤ}
 use Rattle.bits.specs.Bits.{bitOf}
-use Rattle.bits.specs.Below.{one}
 use Rattle.moment.specs.Intervals.{edgesWithin}
 use Rattle.moment.specs.declared.Interval.{Interval}
-use Rattle.rules.specs.Verdict.{isConflict, leaves}
+use Rattle.rules.specs.Verdict.{conflictsAfter}
 use Rattle.rules.specs.declared.Finding.{Finding}
 use Rattle.rules.specs.declared.Finding.the-variants.{Conflict, Taken, Kept}
 use Rattle.rules.specs.declared.Verdict.{Verdict}
@@ -37,7 +36,7 @@ module _ (k : Keeper) (taken kept dropped : ℕ) (stands : ℤ → Type 0) (held
   -- with a finding of the verdict's, and its counts
   Replied : Finding → Type 0
   Replied finding =
-      Invariant (logCounted finding (logOf k taken kept dropped) (logEnded (stateOf k) peer (v .edges) (k .conflicts + one (isConflict finding)))) (ended k peer (v .edges) (k .conflicts + one (isConflict finding))) (advanced (repliedEvent finding b) stands)
+      Invariant (logCounted finding (logOf k taken kept dropped) (logEnded (stateOf k) peer (v .edges) (conflictsAfter (k .conflicts) finding))) (ended k peer (v .edges) (conflictsAfter (k .conflicts) finding)) (advanced (repliedEvent finding b) stands)
 
   -- no course was in the bracket, so none stands
   conflict-invariant : v .finding ≡ Conflict → Replied Conflict
@@ -59,17 +58,17 @@ module _ (k : Keeper) (taken kept dropped : ℕ) (stands : ℤ → Type 0) (held
   taken-invariant : v .finding ≡ Taken → Replied Taken
   unfolding ended changed Replied
   taken-invariant e =
-      ended-invariant k taken kept dropped stands held (j .before) peer (j .small) (j .waits) (v .edges) (k .conflicts + 0) (taken + 1) kept dropped
+      ended-invariant k taken kept dropped stands held (j .before) peer (j .small) (j .waits) (v .edges) (k .conflicts) (taken + 1) kept dropped
       (j .within)
       (omega arith)
       (omega arith)
       (advanced (repliedEvent Taken b) stands)
       (record {
         within = λ m s. j .sound .within e m (s .1) (f .within m (s .0));
-        no-conflict = λ m s. let none = f .no-conflict m (s .0) in omega arith;
+        no-conflict = λ m s. f .no-conflict m (s .0);
         reached = λ r s q m h.
             let both = j .sound .reached e r m h in
-            (f .reached r (j .before) (omega arith) m (both .1), both .0);
+            (f .reached r (j .before) q m (both .1), both .0);
       })
 
   -- the edges stay, and so do the courses
@@ -77,14 +76,14 @@ module _ (k : Keeper) (taken kept dropped : ℕ) (stands : ℤ → Type 0) (held
   unfolding ended changed Replied
   kept-invariant e =
       let stays = j .sound .kept-stays e in
-      ended-invariant k taken kept dropped stands held (j .before) peer (j .small) (j .waits) (v .edges) (k .conflicts + 0) taken (kept + 1) dropped
+      ended-invariant k taken kept dropped stands held (j .before) peer (j .small) (j .waits) (v .edges) (k .conflicts) taken (kept + 1) dropped
       (j .within)
       (omega arith)
       (omega arith)
       stands
       (record {
         within = λ m s. rw stays (f .within m s);
-        no-conflict = λ m s. let none = f .no-conflict m s in omega arith;
+        no-conflict = f .no-conflict;
         reached = λ r. absurd (j .sound .kept-rule e r);
       })
 

@@ -5,11 +5,11 @@ use Prim.Native.Nat.{ℕ, _+_}
 use lib.Dec.{ltb, eqb}
 use lib.IntN.{pos}
 use Rattle.bits.specs.Choice.{choose}
-use Rattle.bits.specs.Below.{one, updated}
+use Rattle.bits.specs.Below.{updated}
 use Rattle.moment.specs.declared.Interval.{Interval}
 use Rattle.moment.specs.Intervals.{interval}
 use Rattle.rules.specs.Rules.{widened}
-use Rattle.rules.specs.Verdict.{isConflict}
+use Rattle.rules.specs.Verdict.{conflictsAfter}
 use Rattle.rules.specs.declared.Rule.{Rule}
 use Rattle.rules.specs.declared.Rule.the-variants.{Im}
 use Rattle.rules.specs.declared.Finding.{Finding}
@@ -124,7 +124,7 @@ logCounted Conflict l s = withState l s
 -- 'the edges become what Reply gives for the log's rule', and the conflict count gains 1 for a conflict
 unfoldable pub logReplied : Log → ℕ → Verdict → Log
 logReplied l peer v =
-    logCounted (v .finding) l (logEnded (l .state) peer (v .edges) (l .state .conflicts + one (isConflict (v .finding))))
+    logCounted (v .finding) l (logEnded (l .state) peer (v .edges) (conflictsAfter (l .state .conflicts) (v .finding)))
 
 -- An accepted command.
 unfoldable pub logAccepted : Log → Command → Log

@@ -3,7 +3,6 @@
 use mathlib.Core.Path.{_≡_, refl}
 use mathlib.Core.Bool.{true, false}
 use Prim.Native.Nat.{ℕ, _+_, _-_, _^_}
-use native.Mathlib.Nat.{add-zero}
 use lib.IntN.{ℤ}
 use lib.ListN.{set}
 use Rattle.moment.specs.declared.Interval.{Interval}
@@ -36,19 +35,19 @@ module _ (k : Keeper) (peer tag : ℕ) (reply : Interval) where
       → accepted k (C.Reply peer tag reply)
       ≡ outcomeOf (A.Replied peer (verdict Taken (narrowed b (k .edges)))) (ended k peer (narrowed b (k .edges)) (k .conflicts))
   unfolding accepted replied replyVerdict judged judgedBy stateOf
-  taken-narrows e im = rw (e, im, add-zero)
+  taken-narrows e im = rw (e, im)
 
   -- under mm one that is no wider takes the reply's edges, moved outward, and says so; one that is wider changes no edge, and says so
   pub adopted-taken : conflicting b (k .edges) ≡ false → k .rule ≡ Mm → noWider span reply (k .edges) ≡ true
       → accepted k (C.Reply peer tag reply)
       ≡ outcomeOf (A.Replied peer (verdict Taken (adopted span reply))) (ended k peer (adopted span reply) (k .conflicts))
   unfolding accepted replied replyVerdict judged judgedBy stateOf
-  adopted-taken e mm f = rw (e, mm, f, add-zero)
+  adopted-taken e mm f = rw (e, mm, f)
 
   pub wider-kept : conflicting b (k .edges) ≡ false → k .rule ≡ Mm → noWider span reply (k .edges) ≡ false
       → accepted k (C.Reply peer tag reply) ≡ outcomeOf (A.Replied peer (verdict Kept (k .edges))) (ended k peer (k .edges) (k .conflicts))
   unfolding accepted replied replyVerdict judged judgedBy stateOf
-  wider-kept e mm f = rw (e, mm, f, add-zero)
+  wider-kept e mm f = rw (e, mm, f)
 
 -- a pass moves both edges, after conflicts too
 pub pass-widens : (k : Keeper) (n : ℕ)

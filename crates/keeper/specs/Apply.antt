@@ -6,10 +6,10 @@ use lib.Dec.{eqb}
 use lib.ListN.{set}
 use Rattle.bits.specs.Choice.{choose}
 use Rattle.bits.specs.Bits.{bitOf}
-use Rattle.bits.specs.Below.{one, countBelow}
+use Rattle.bits.specs.Below.{countBelow}
 use Rattle.moment.specs.declared.Interval.{Interval}
 use Rattle.rules.specs.Rules.{widened, told, centre, errorOf}
-use Rattle.rules.specs.Verdict.{isConflict}
+use Rattle.rules.specs.Verdict.{conflictsAfter}
 use Rattle.rules.specs.declared.Rule.{Rule}
 use Rattle.rules.specs.declared.Verdict.{Verdict}
 use Rattle.command.specs.declared.Command.{Command}
@@ -79,9 +79,9 @@ unfolding changed
 ended k peer edges conflicts =
     changed k edges (k .ticks) (k .requests) conflicts (k .waiting - 2 ^ peer) (set (k .tags) peer 0) (set (k .«sent_at») peer 0)
 
--- A reply, by its verdict: the edges become the verdict's, 'each conflict counts once', and the request is over.
+-- A reply, by its verdict: the edges become the verdict's, a conflict counts, and the request is over.
 unfoldable pub replied : Keeper → ℕ → Verdict → Outcome
-replied k peer v = outcomeOf (A.Replied peer v) (ended k peer (v .edges) (k .conflicts + one (isConflict (v .finding))))
+replied k peer v = outcomeOf (A.Replied peer v) (ended k peer (v .edges) (conflictsAfter (k .conflicts) (v .finding)))
 
 -- What an accepted command does.
 unfoldable pub accepted : Keeper → Command → Outcome

@@ -3,8 +3,8 @@ use moment::Interval;
 use rules::Rule;
 use rules::Verdict;
 
-pub mod answers;
 pub mod calls;
+pub mod number;
 mod refusals;
 mod started;
 mod steps;

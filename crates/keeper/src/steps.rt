@@ -3,15 +3,13 @@ use crate::Answer;
 use crate::Keeper;
 use crate::Outcome;
 use moment::Interval;
-use rules::Finding;
 use rules::Rule;
 use rules::Verdict;
+use rules::judge::conflicts_after;
 ghost use mathlib.Core.Path.{_≡_};
 ghost use mathlib.Core.Bool.{true, false};
-ghost use Prim.Native.Nat.{_+_, _≤_, _<_, _^_};
+ghost use Prim.Native.Nat.{_≤_, _<_, _^_};
 ghost use Rattle.bits.specs.Bits.{bitOf};
-ghost use Rattle.bits.specs.Below.{one};
-ghost use Rattle.rules.specs.Verdict.{isConflict};
 ghost use Rattle.keeper.specs.State.{mostRequests};
 ghost use Rattle.keeper.specs.Apply.{outcomeOf, begun, passedTo, asked, ended, replied};
 ghost use Rattle.keeper.specs.declared.Answer.the-variants.{Refused};
@@ -20,10 +18,8 @@ ghost use Rattle.keeper.specs.declared.Answer.the-variants.{Refused};
 pub(crate) fn refused(keeper: Keeper, number: u8) -> Outcome
     ensures { λ r. ⌜ r ≡ outcomeOf (Refused number) keeper ⌝ }
 {
-    Outcome {
-        answer: Answer::Refused(number),
-        keeper,
-    }
+    let answer = Answer::Refused(number);
+    Outcome { answer, keeper }
 }
 
 // A keeper at its start: all but what the command sets is as in a fresh one.
@@ -90,18 +86,6 @@ pub(crate) fn ended_with(keeper: Keeper, peer: u8, edges: Interval, conflicts: u
     next.tags = tags;
     next.sent_at = sent_at;
     next
-}
-
-// The count, with one more for a conflict.
-fn conflicts_after(conflicts: u32, finding: Finding) -> u32
-    requires { ⌜ conflicts ≤ mostRequests ⌝ }
-    ensures { λ r. ⌜ r ≡ conflicts + one (isConflict finding) ⌝ }
-{
-    match finding {
-        Finding::Conflict => conflicts + 1,
-        Finding::Taken => conflicts,
-        Finding::Kept => conflicts,
-    }
 }
 
 // A reply that was found, by its verdict.

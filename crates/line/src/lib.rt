@@ -4,8 +4,8 @@ use command::Reading;
 use keeper::Answer;
 use keeper::Keeper;
 use keeper::Outcome;
-use keeper::answers::number_of;
 use keeper::calls::apply_command;
+use keeper::number::number_of;
 use reader::read_command;
 use text::output::put_bytes;
 ghost use mathlib.Core.Path.{_≡_};
@@ -66,9 +66,9 @@ pub fn call(keeper: Keeper, line: &[u8], out: &mut [u8]) -> Response
         };
     }
     let outcome = answer_to(keeper, line);
-    let answer = outcome.answer;
-    let length = write_answer(out, answer, outcome.keeper);
     let next = outcome.keeper;
+    let answer = outcome.answer;
+    let length = write_answer(out, answer, next);
     Response {
         number: number_of(answer),
         keeper: next,

@@ -2,7 +2,6 @@
 use mathlib.Core.Path.{_≡_}
 use mathlib.Core.Bool.{true, false}
 use Prim.Native.Nat.{ℕ, _*_, _≤_}
-use native.Mathlib.Nat.{mul-le-mul-left}
 use borrow.Author.Tests.{not-false}
 use lib.IntN.{ℤ, pos, _+ℤ_, _-ℤ_}
 use lib.Signed.{_≤ℤ_}
@@ -12,10 +11,7 @@ use Rattle.moment.specs.declared.Interval.{Interval}
 use Rattle.moment.proofs.Integers.{ints, sum, dif, max-is, min-is}
 use Rattle.moment.proofs.Within.{within-read, within-made, ordered-within}
 use Rattle.rules.specs.Rules.{widened, conflicting, narrowed, adopted}
-
--- a tick's shortest length is at most its longest, and so are those of n ticks
-pub ticks-apart : (claim n : ℕ) → n * shortest claim ≤ n * longest claim
-ticks-apart claim n = mul-le-mul-left n (omega ints)
+use Rattle.rules.proofs.Sets.{ticks-apart}
 
 pub widened-within : (claim n : ℕ) (edges : Interval) → claim ≤ 50000 → edgesWithin edges ≡ true → bothInRange (widened claim n edges) ≡ true → edgesWithin (widened claim n edges) ≡ true
 unfolding widened

@@ -16,6 +16,10 @@ use Rattle.bits.proofs.Tests.{clash}
 use Rattle.rules.specs.Rules.{widened, bracket, conflicting, narrowed, outward, adopted}
 use Rattle.moment.specs.Intervals.{Holds, shareOne}
 
+-- a tick's shortest length is at most its longest, and so are those of n ticks
+pub ticks-apart : (claim n : ℕ) → n * shortest claim ≤ n * longest claim
+ticks-apart claim n = mul-le-mul-left n (omega arith)
+
 -- a course that was within the edges is within those of a pass
 pub passed-within : (claim n : ℕ) (edges : Interval) (x m : ℤ) (d : ℕ) → Holds edges x → n * shortest claim ≤ d → d ≤ n * longest claim → m ≡ x +ℤ pos d → Holds (widened claim n edges) m
 unfolding widened
@@ -37,7 +41,7 @@ unfolding widened
 passed-reached claim n edges m order h =
     let past = m -ℤ edges .upper in
     let over : ℕ = max (n * shortest claim) (up past - dn past) in
-    let spans : n * shortest claim ≤ n * longest claim = mul-le-mul-left n (omega arith) in
+    let spans = ticks-apart claim n in
     let lower = sum (edges .lower) (pos (n * shortest claim)) in
     let upper = sum (edges .upper) (pos (n * longest claim)) in
     let by = dif m (edges .upper) in
@@ -52,6 +56,13 @@ passed-reached claim n edges m order h =
     }
 
 -- A bracket holds the moments that lie in the reply's edges or up to w longest ticks after them.
+pub bracket-within : (claim w : ℕ) (reply : Interval) (m : ℤ) → Reached reply 0 (w * longest claim) m → Holds (bracket claim w reply) m
+unfolding bracket
+bracket-within claim w reply m c =
+    let within = c .within in
+    let same = c .sum in
+    omega (ints, sum (reply .upper) (pos (w * longest claim)), dif (reply .lower) (pos (w * longest claim)), sum (c .moment) (pos (c .gained)), c .most-gained)
+
 pub bracket-reached : (claim w : ℕ) (reply : Interval) (m : ℤ) → reply .lower ≤ℤ reply .upper → Holds (bracket claim w reply) m → Reached reply 0 (w * longest claim) m
 unfolding bracket
 bracket-reached claim w reply m order h =
@@ -69,13 +80,6 @@ bracket-reached claim w reply m order h =
       sum = omega (ints, sum (m -ℤ pos over) (pos over));
     }
 
-pub bracket-within : (claim w : ℕ) (reply : Interval) (m : ℤ) → Reached reply 0 (w * longest claim) m → Holds (bracket claim w reply) m
-unfolding bracket
-bracket-within claim w reply m c =
-    let within = c .within in
-    let same = c .sum in
-    omega (ints, sum (reply .upper) (pos (w * longest claim)), sum (c .moment) (pos (c .gained)), c .most-gained)
-
 -- nothing lies in a bracket and in edges that conflict with it
 pub none-in-both : (b edges : Interval) (m : ℤ) → conflicting b edges ≡ true → Holds b m → Holds edges m → ⊥
 unfolding conflicting
@@ -85,13 +89,13 @@ none-in-both b edges m e h k =
     clash shared apart
 
 -- under im the new edges hold what lies in the bracket and in the edges, and nothing else
-pub met-within : (b edges : Interval) (m : ℤ) → Holds edges m → Holds b m → Holds (narrowed b edges) m
-unfolding narrowed
-met-within b edges m h k = meet b edges m .0 (k, h)
-
 pub met-reached : (b edges : Interval) (m : ℤ) → Holds (narrowed b edges) m → Holds b m × Holds edges m
 unfolding narrowed
 met-reached b edges m h = meet b edges m .1 h
+
+pub met-within : (b edges : Interval) (m : ℤ) → Holds edges m → Holds b m → Holds (narrowed b edges) m
+unfolding narrowed
+met-within b edges m h k = meet b edges m .0 (k, h)
 
 -- under mm the new edges hold the whole bracket
 pub adopted-holds : (claim w : ℕ) (reply : Interval) (m : ℤ) → Holds (bracket claim w reply) m → Holds (adopted (outward claim w) reply) m

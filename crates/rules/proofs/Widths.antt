@@ -10,7 +10,7 @@ use Rattle.moment.specs.declared.Interval.{Interval}
 use Rattle.moment.proofs.Integers.{ints, sum, dif}
 use Rattle.moment.proofs.IntervalLaws.{meet}
 use Rattle.rules.specs.Rules.{widened, narrowed, noWider, adopted}
-use Rattle.rules.proofs.Limits.{ticks-apart}
+use Rattle.rules.proofs.Sets.{ticks-apart}
 
 -- a reply taken under im never widens: what the new edges hold, the old ones held
 pub narrowed-inside : (b edges : Interval) (m : ℤ) → Holds (narrowed b edges) m → Holds edges m

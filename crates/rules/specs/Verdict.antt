@@ -1,6 +1,7 @@
 -- What a reply comes to: document 01, 'Reply'. One definition, by which the causes of a refusal, what an accepted reply does, the log and
 -- courses go.
 use mathlib.Core.Bool.{Bool, true, false, not, _&&_}
+use Prim.Native.Nat.{ℕ, _+_}
 use lib.IntN.{ℤ}
 use Rattle.bits.specs.Choice.{choose}
 use Rattle.moment.specs.Intervals.{bothInRange}
@@ -33,10 +34,11 @@ isTaken Conflict = false
 isTaken Taken = true
 isTaken Kept = false
 
-abbrev pub isConflict : Finding → Bool
-isConflict Conflict = true
-isConflict Taken = false
-isConflict Kept = false
+-- 'conflict: the conflict count gains 1', whatever it was; at no other reply.
+abbrev pub conflictsAfter : ℕ → Finding → ℕ
+conflictsAfter conflicts Conflict = conflicts + 1
+conflictsAfter conflicts Taken = conflicts
+conflictsAfter conflicts Kept = conflicts
 
 -- Refusal 5 of a reply: one taken whose edges leave the range.
 unfoldable pub leaves : Verdict → Bool

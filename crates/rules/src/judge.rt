@@ -10,8 +10,9 @@ use moment::intervals::both_in_range;
 use moment::intervals::share_a_moment;
 ghost use mathlib.Core.Path.{_≡_};
 ghost use mathlib.Core.Bool.{true};
+ghost use Prim.Native.Nat.{_<_};
 ghost use Rattle.moment.specs.Intervals.{edgesWithin};
-ghost use Rattle.rules.specs.Verdict.{judgedBy, judged, leaves};
+ghost use Rattle.rules.specs.Verdict.{judgedBy, judged, leaves, conflictsAfter};
 ghost use Rattle.rules.specs.Spans.{Span};
 ghost use Rattle.rules.specs.declared.Rule.the-variants.{Mm};
 
@@ -22,16 +23,15 @@ fn judge_by_width(bracket: Interval, span: i64, reply: Interval, edges: Interval
     requires { ⌜ edgesWithin edges ≡ true ⌝ }
     ensures { λ r. ⌜ r ≡ judgedBy Mm bracket span reply edges ⌝ }
 {
-    if no_wider(span, reply, edges) {
-        Verdict {
-            finding: Finding::Taken,
-            edges: adopt(span, reply),
-        }
-    } else {
-        Verdict {
+    if !no_wider(span, reply, edges) {
+        return Verdict {
             finding: Finding::Kept,
             edges,
-        }
+        };
+    }
+    Verdict {
+        finding: Finding::Taken,
+        edges: adopt(span, reply),
     }
 }
 
@@ -65,5 +65,17 @@ pub fn leaves_the_range(verdict: Verdict) -> bool
         Finding::Taken => !both_in_range(verdict.edges),
         Finding::Conflict => false,
         Finding::Kept => false,
+    }
+}
+
+// The conflict count after a reply: only a conflict counts.
+pub fn conflicts_after(conflicts: u32, finding: Finding) -> u32
+    requires { ⌜ conflicts < 4294967295 ⌝ }
+    ensures { λ r. ⌜ r ≡ conflictsAfter conflicts finding ⌝ }
+{
+    match finding {
+        Finding::Conflict => conflicts + 1,
+        Finding::Taken => conflicts,
+        Finding::Kept => conflicts,
     }
 }

@@ -1,5 +1,5 @@
 -- `boardtime_lib::boardtime_pass` meets its contract: ticks above the limit are refused before they are cut to 32 bits; else the keeper of the
--- image, the pass by value, and the image of the keeper that came back.
+-- image, the pass of it lent, and the image of the keeper that came back.
 use mathlib.Core.Path.{refl, sym, _∙_}
 use native.Mathlib.Omega.{arith}
 use borrow.Author.Tests.{not-true, not-false, eqb-true, eqb-false}
@@ -38,16 +38,13 @@ cast-pass c = omega (arith, ticks-bound _ (sym (c .before .before .before .ticks
 pass-requires : tie.Need-pass-requires
 pass-requires c κs = search needs
 
-number-of-requires : tie.Need-number-of-requires
-number-of-requires c κs = search needs
-
 same-length-3 : tie.Need-same-length-3
 same-length-3 c = search needs
 
 returns-3 : tie.Need-returns-3
 returns-3 c =
-    let whole = eqb-true _ _ (sym (c .before .before .before .before .before .before .before .before .before .is-image .ensures) ∙ not-false _ (c .before .before .before .before .before .before .before .before .if1 .left)) in
-    pass-moved _ whole (c .before .before .before .before .load .ensures) (c .before .before .before .pass .ensures) (c .before .number-of .ensures) (left-refused _ whole _ _ (c .if3 .taken))
+    let whole = eqb-true _ _ (sym (c .before .before .before .before .before .before .before .before .is-image .ensures) ∙ not-false _ (c .before .before .before .before .before .before .before .if1 .left)) in
+    pass-moved _ whole (c .before .before .before .load .ensures) (c .before .before .pass .ensures) refl (left-refused _ whole _ _ (c .if3 .taken))
 
 store-requires : tie.Need-store-requires
 store-requires c κs = search needs
@@ -57,8 +54,8 @@ same-length-4 c = search needs
 
 returns-4 : tie.Need-returns-4
 returns-4 c =
-    let whole = eqb-true _ _ (sym (c .before .before .before .before .before .before .before .before .before .before .before .before .before .is-image .ensures) ∙ not-false _ (c .before .before .before .before .before .before .before .before .before .before .before .before .if1 .left)) in
-    pass-moved _ whole (c .before .before .before .before .before .before .before .before .load .ensures) (c .before .before .before .before .before .before .before .pass .ensures) (sym (c .before .before .before .before .if3 .left) ∙ c .before .before .before .before .before .number-of .ensures) (left-stored _ whole _ _ refl (c .before .before .store .ensures))
+    let whole = eqb-true _ _ (sym (c .before .before .before .before .before .before .before .before .before .before .before .before .is-image .ensures) ∙ not-false _ (c .before .before .before .before .before .before .before .before .before .before .before .if1 .left)) in
+    pass-moved _ whole (c .before .before .before .before .before .before .before .load .ensures) (c .before .before .before .before .before .before .pass .ensures) (sym (c .before .before .before .before .if3 .left)) (left-stored _ whole _ _ refl (c .before .before .store .ensures))
 
 pub boardtime-pass-spec : {M : Type 1} → statement M
 boardtime-pass-spec =
@@ -73,7 +70,6 @@ boardtime-pass-spec =
     load-requires
     cast-pass
     pass-requires
-    number-of-requires
     same-length-3
     returns-3
     store-requires

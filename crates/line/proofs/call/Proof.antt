@@ -22,8 +22,8 @@ answer-to-requires c κs = search needs
 
 write-answer-requires : tie.Need-write-answer-requires
 write-answer-requires c κs =
-    let same = c .before .answer-to .ensures in
-    (c .before .before .if1 .left, λ h. rw same (listed _ _ (sym (ap (λ (o : Outcome). o .answer) same) ∙ h)))
+    let same = c .before .before .answer-to .ensures in
+    (c .before .before .before .if1 .left, λ h. rw same (listed _ _ (sym (ap (λ (o : Outcome). o .answer) same) ∙ h)))
 
 number-of-requires : tie.Need-number-of-requires
 number-of-requires c κs = search needs
@@ -36,7 +36,7 @@ unfolding numberAfter keeperAfter
 returns-2 c =
     let same = c .before .before .before .before .before .before .answer-to .ensures in
     let large = le-ltb _ 256 (c .before .before .before .before .before .before .before .if1 .left) in
-    let w = c .before .before .before .before .write-answer in
+    let w = c .before .before .before .write-answer in
     let wrote = w .ensures in
     let before = c .before .before .before .before .before .before .before .before .before .before .args .out .now in
     record {

@@ -8,8 +8,8 @@ use Rattle.command.proofs.LimitLaws.{ticks-bound}
 use Rattle.keeper.specs.State.{stateOf}
 use Rattle.command.specs.Causes.{first, ownCauses}
 use Rattle.keeper.specs.Refusals.{refusal, causes, keeperCauses}
-use Rattle.keeper.specs.Apply.{accepted}
 use Rattle.keeper.proofs.CallLaws.{apply-refused, apply-accepted}
+use Rattle.keeper.proofs.Outcomes.{pass-widens}
 use Rattle.keeper.proofs.StartedLaws.{started-read}
 use Rattle.moment.proofs.BoundLaws.{placed-within, placed-outside}
 use Rattle.keeper.proofs.Keeper.pass.Statement.{statement}
@@ -100,7 +100,7 @@ passed-to-requires : tie.Need-passed-to-requires
 passed-to-requires c κs = search needs
 
 returns-5 : tie.Need-returns-5
-unfolding refusal first causes ownCauses keeperCauses stateOf accepted
+unfolding refusal first causes ownCauses keeperCauses stateOf
 returns-5 c =
     let x = c .before .before .before .before .before .before .before .before .before .before .before .args in
     let (in-range, same) = placed-within _ _ (sym (c .before .before .before .before .before .before .widen .ensures) ∙ c .before .before .before .before .edges .given .1) in
@@ -111,7 +111,7 @@ returns-5 c =
       sym (c .before .before .before .before .before .before .before .before .counts-as-started .ensures) ∙ not-false _ (c .before .before .before .before .before .before .before .if2 .left),
       in-range,
       le-leb _ _ (c .before .if3 .left),
-    ))))
+    )) ∙ pass-widens (x .self) (x .ticks)))
 
 pub pass-spec : {M : Type 1} → statement M
 pass-spec =

@@ -1,9 +1,7 @@
--- `keeper::steps::conflicts_after` meets its contract: only a conflict counts.
+-- `rules::judge::conflicts_after` meets its contract: only a conflict counts.
 use borrow.Author.Needs.{needs}
-use native.Mathlib.Nat.{add-zero}
-use mathlib.Core.Path.{sym}
-use Rattle.keeper.proofs.steps.conflicts_after.Statement.{statement}
-use Rattle.keeper.proofs.steps.conflicts_after.Tie as tie
+use Rattle.rules.proofs.judge.conflicts_after.Statement.{statement}
+use Rattle.rules.proofs.judge.conflicts_after.Tie as tie
 
 enum-told : tie.Need-enum-told
 enum-told c = search needs
@@ -21,10 +19,10 @@ returns : tie.Need-returns
 returns c = rw (c .enum-told .given .1)
 
 returns-2 : tie.Need-returns-2
-returns-2 c = rw (c .enum-told2 .given .1) (sym (add-zero _))
+returns-2 c = rw (c .enum-told2 .given .1)
 
 returns-3 : tie.Need-returns-3
-returns-3 c = rw (c .enum-told3 .given .1) (sym (add-zero _))
+returns-3 c = rw (c .enum-told3 .given .1)
 
 pub conflicts-after-spec : {M : Type 1} → statement M
 conflicts-after-spec = tie.close (tie.spec enum-told add-result enum-told-2 enum-told-3 returns returns-2 returns-3)
