@@ -17,7 +17,7 @@ use Rattle.keeper.specs.declared.Keeper.{Keeper}
 use Rattle.keeper.specs.declared.Answer.{Answer}
 use Rattle.keeper.specs.declared.Answer.the-variants as A
 
--- 'lent output under 256 bytes' is refused: the line of every answer and its LF fit these.
+-- 'lent output under 256 bytes' is refused: the line of every answer and its LF have room in this many.
 abbrev pub leastOutput : ℕ
 leastOutput = 256
 

@@ -4,13 +4,12 @@ use mathlib.Core.Logic.{_↔_, _⊎_, inl, inr}
 use Prim.Native.Nat.{ℕ, _+_}
 use native.Mathlib.Omega.{arith}
 use Rattle.moment.specs.declared.Interval.{Interval}
-use Rattle.rules.specs.Verdict.{conflictsAfter}
 use Rattle.rules.specs.declared.Finding.{Finding}
 use Rattle.rules.specs.declared.Finding.the-variants.{Conflict, Taken, Kept}
 use Rattle.command.specs.declared.Command.{Command}
 use Rattle.command.specs.declared.Command.the-variants as C
 use Rattle.keeper.specs.Refusals.{replyBracket, replyVerdict}
-use Rattle.history.specs.Log.{Log, Accepting, accepts, refuses, accepting, logStarted, stateWith, logPassed, logAsked, logEnded, logCounted, logReplied, logAccepted, logBy, logged}
+use Rattle.history.specs.Log.{Log, Accepting, accepts, refuses, accepting, logStarted, stateWith, logPassed, logAsked, logEnded, logConflicts, logCounted, logReplied, logAccepted, logBy, logged}
 use Rattle.history.specs.Course.{Event, began, passed, met, stayed, repliedEvent, commandEvent, eventBy, eventOf}
 use Rattle.history.specs.Moments.{BracketIffCounted}
 
@@ -37,7 +36,7 @@ neither {taken} {conflicts} none = (λ b. absurd (none (rw (b .1) tt)), λ s. ab
     go (inr h) = omega arith
 
 finding-counted : (finding : Finding) (l : Log) (peer : ℕ) (b edges : Interval)
-    → CountedBy (repliedEvent finding b) l (logCounted finding l (logEnded (l .state) peer edges (conflictsAfter (l .state .conflicts) finding)))
+    → CountedBy (repliedEvent finding b) l (logCounted finding l (logEnded (l .state) peer edges (logConflicts (l .state .conflicts) finding)))
 unfolding logEnded stateWith
 finding-counted Conflict l peer b edges = (λ h. inr refl, λ s. (b, refl))
 finding-counted Taken l peer b edges = (λ h. inl refl, λ s. (b, refl))

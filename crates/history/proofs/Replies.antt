@@ -16,7 +16,7 @@ use Rattle.keeper.specs.State.{countsAsStarted, stateOf}
 use Rattle.keeper.specs.Apply.{changed, ended, replied}
 use Rattle.keeper.specs.declared.Keeper.{Keeper}
 use Rattle.keeper.proofs.StartedLaws.{started-read}
-use Rattle.history.specs.Log.{logEnded, logCounted, logReplied}
+use Rattle.history.specs.Log.{logEnded, logConflicts, logCounted, logReplied}
 use Rattle.history.specs.Course.{advanced, repliedEvent}
 use Rattle.history.proofs.Invariant.{logOf, Follows, KeeperInvariant, Invariant}
 use Rattle.history.proofs.Steps.{ended-invariant}
@@ -36,7 +36,7 @@ module _ (k : Keeper) (taken kept dropped : ℕ) (stands : ℤ → Type 0) (held
   -- with a finding of the verdict's, and its counts
   Replied : Finding → Type 0
   Replied finding =
-      Invariant (logCounted finding (logOf k taken kept dropped) (logEnded (stateOf k) peer (v .edges) (conflictsAfter (k .conflicts) finding))) (ended k peer (v .edges) (conflictsAfter (k .conflicts) finding)) (advanced (repliedEvent finding b) stands)
+      Invariant (logCounted finding (logOf k taken kept dropped) (logEnded (stateOf k) peer (v .edges) (logConflicts (k .conflicts) finding))) (ended k peer (v .edges) (conflictsAfter (k .conflicts) finding)) (advanced (repliedEvent finding b) stands)
 
   -- no course was in the bracket, so none stands
   conflict-invariant : v .finding ≡ Conflict → Replied Conflict

@@ -42,7 +42,7 @@ count-cleared w p h e =
     let some = ap one e in omega arith
 
 module _ (k : Keeper) (taken kept dropped : ℕ) (stands : ℤ → Type 0) (held : KeeperInvariant k taken kept dropped stands) where
-  -- a fresh keeper is started: whoever is within the edges begins a course
+  -- a fresh keeper is started: at each moment of the edges a course begins
   pub start-invariant : countsAsStarted k ≡ false
       → (board : ℕ) (rule : Rule) (claim : ℕ) (edges : Interval)
       → keeps (formOf (C.Start board rule claim edges)) ≡ true

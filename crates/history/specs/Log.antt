@@ -9,7 +9,6 @@ use Rattle.bits.specs.Below.{updated}
 use Rattle.moment.specs.declared.Interval.{Interval}
 use Rattle.moment.specs.Intervals.{interval}
 use Rattle.rules.specs.Rules.{widened}
-use Rattle.rules.specs.Verdict.{conflictsAfter}
 use Rattle.rules.specs.declared.Rule.{Rule}
 use Rattle.rules.specs.declared.Rule.the-variants.{Im}
 use Rattle.rules.specs.declared.Finding.{Finding}
@@ -121,10 +120,16 @@ logCounted Taken l s = record { state = s; taken = l .taken + 1; kept = l .kept;
 logCounted Kept l s = record { state = s; taken = l .taken; kept = l .kept + 1; dropped = l .dropped }
 logCounted Conflict l s = withState l s
 
--- 'the edges become what Reply gives for the log's rule', and the conflict count gains 1 for a conflict
+-- 'the conflict count gains 1' at a conflict, and at no other reply
+abbrev pub logConflicts : ℕ → Finding → ℕ
+logConflicts conflicts Conflict = conflicts + 1
+logConflicts conflicts Taken = conflicts
+logConflicts conflicts Kept = conflicts
+
+-- 'the edges become what Reply gives for the log's rule'
 unfoldable pub logReplied : Log → ℕ → Verdict → Log
 logReplied l peer v =
-    logCounted (v .finding) l (logEnded (l .state) peer (v .edges) (conflictsAfter (l .state .conflicts) (v .finding)))
+    logCounted (v .finding) l (logEnded (l .state) peer (v .edges) (logConflicts (l .state .conflicts) (v .finding)))
 
 -- An accepted command.
 unfoldable pub logAccepted : Log → Command → Log

@@ -42,7 +42,7 @@ numbersKept board claim edges ticks requests =
     boardWithin board && (claimWithin claim && (edgesWithin edges && (leb ticks mostTicks && leb requests mostRequests)))
 
 -- 'A keeper handed in counts as not started unless [the numbers are kept], conflicts plus waiting are at most the requests sent, the board
--- itself isn't waiting, the waiting peers' tags differ, ..' WAITING is 'held as one bit a peer'.
+-- itself isn't waiting, and the waiting peers' tags differ, ..' WAITING is 'held as one bit a peer'.
 unfoldable pub countsAsStarted : Keeper → Bool
 countsAsStarted k =
     k .started

@@ -104,7 +104,7 @@ impl Keeper {
         }
     }
 
-    // A reply without its request, or with another tag, is refused before its edges are used.
+    // A reply without its request, or with another tag, is refused before its edges are held against the keeper's.
     pub fn reply(self, peer: u8, tag: u32, edges: Interval) -> Outcome
         ensures { λ r. ⌜ r ≡ apply self (C.Reply peer tag edges) ⌝ }
     {

@@ -34,6 +34,11 @@ within-made {edges} w =
     (join (range-made (edges .lower) (w .low) (omega ints)) (range-made (edges .upper) (omega ints) (w .high)))
     (make-leZ-true (edges .lower) (edges .upper) (omega ints))
 
+-- edges within their limits lie in the range
+pub within-range : (edges : Interval) → edgesWithin edges ≡ true → bothInRange edges ≡ true
+unfolding edgesWithin bothInRange
+within-range edges e = both (inRange (edges .lower) && inRange (edges .upper)) (leZ (edges .lower) (edges .upper)) e .0
+
 -- of edges in order it is enough that both lie in the range
 pub ordered-within : (edges : Interval) → bothInRange edges ≡ true → edges .lower ≤ℤ edges .upper → edgesWithin edges ≡ true
 unfolding edgesWithin bothInRange

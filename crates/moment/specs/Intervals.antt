@@ -24,7 +24,7 @@ pub record Share (a b : Interval) : Type 0 where
   pub first : Holds a moment
   pub second : Holds b moment
 
--- The test: the larger lower edge is at most the smaller upper one. `proofs/Intervals.antt` proves that it is true exactly if the two
+-- The test: the larger lower edge is at most the smaller upper one. `proofs/IntervalLaws.antt` proves that it is true exactly if the two
 -- share a moment.
 unfoldable pub shareOne : Interval → Interval → Bool
 shareOne a b = leZ (largerOf (a .lower) (b .lower)) (smallerOf (a .upper) (b .upper))

@@ -9,7 +9,7 @@ ghost use mathlib.Core.Path.{_≡_};
 ghost use lib.IntN.{_+ℤ_};
 ghost use Rattle.moment.specs.Intervals.{interval, shareOne, bothInRange, edgesWithin, placed};
 
-// Two edges within what they were asked for, or not.
+// Two edges that passed a test (both in the range, or in order too), or that they did not.
 pub enum Bounds {
     Within(Interval),
     Outside,

@@ -1,3 +1,4 @@
+// Numerals read: a run of digits, with or without a minus before it.
 use text::words::Word;
 use text::words::word_at;
 ghost use mathlib.Core.Path.{_≡_};

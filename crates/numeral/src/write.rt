@@ -1,3 +1,4 @@
+// Numerals written: the digits of a number, with a minus before them if it is negative.
 ghost use mathlib.Core.Path.{_≡_};
 ghost use Prim.Native.Nat.{_<_};
 ghost use lib.IntN.{natAbs};

@@ -16,7 +16,7 @@ use Rattle.text.proofs.WordLaws.{word-found, word-other, found-word}
 use Rattle.command.specs.Forms as F
 use Rattle.command.specs.Forms.{Form, Spells, parts, IsSpelling}
 use Rattle.command.specs.Limits.{keeps, commandOf, formOf, numberOf, limited}
-use Rattle.shapes.specs.Shapes.{Values, Shape, startShape, replyShape, numberedShape, bareShape, readParts, formed, judged, shapedFrom, restOf}
+use Rattle.shapes.specs.Shapes.{Values, Shape, startShape, replyShape, numberedShape, bareShape, readParts, formed, readAs, shapedFrom, restOf}
 use Rattle.reader.specs.Reading.{shapes, byWord, parseAs, parse, wordThen, takenWord, wordOf, wordFrom, longestLine, readingOf}
 use Rattle.shapes.specs.declared.Numbered.the-variants as N
 use Rattle.shapes.specs.declared.Bare.the-variants as B
@@ -141,19 +141,19 @@ shapes-follow : AllFollow shapes
 unfolding restOf
 shapes-follow = (λ l a. refl, (λ l a. refl, (λ l a. refl, (λ l a. refl, (λ l a. refl, (λ l a. refl, (λ l a. refl, tt)))))))
 
-word-then-rest : (ss : List Shape) → AllFollow ss → (line : List ℕ) → restOf (wordOf ss line 0 .0) line (wordOf ss line 0 .1) ≡ judged (parseAs ss line)
+word-then-rest : (ss : List Shape) → AllFollow ss → (line : List ℕ) → restOf (wordOf ss line 0 .0) line (wordOf ss line 0 .1) ≡ readAs (parseAs ss line)
 unfolding wordOf parseAs restOf shapedFrom
 word-then-rest [] follow line = refl
 word-then-rest (s ∷ ss) follow line = by-word (wordAt line 0 (bytes (s .word))) (word-then-rest ss (follow .1) line)
   where
-    by-word : (w : Word) → restOf (wordOf ss line 0 .0) line (wordOf ss line 0 .1) ≡ judged (parseAs ss line)
+    by-word : (w : Word) → restOf (wordOf ss line 0 .0) line (wordOf ss line 0 .1) ≡ readAs (parseAs ss line)
         → restOf (takenWord w (s .named) (wordOf ss line 0) .0) line (takenWord w (s .named) (wordOf ss line 0) .1)
-        ≡ judged (byWord w (λ at. formed (s .form) (readParts (s .kinds) line at)) (parseAs ss line))
+        ≡ readAs (byWord w (λ at. formed (s .form) (readParts (s .kinds) line at)) (parseAs ss line))
     by-word (After next) ih = follow .0 line next
     by-word Other ih = ih
 
 -- the word of the line's form, and what is left read as that form's parts, are what the line is
-pub walked-is-parsed : (line : List ℕ) → restOf (wordFrom line 0 .0) line (wordFrom line 0 .1) ≡ judged (parse line)
+pub walked-is-parsed : (line : List ℕ) → restOf (wordFrom line 0 .0) line (wordFrom line 0 .1) ≡ readAs (parse line)
 unfolding wordFrom parse
 walked-is-parsed line = word-then-rest shapes shapes-follow line
 

@@ -11,7 +11,7 @@ use Rattle.text.specs.declared.words.Word.the-variants.{After, Other}
 use Rattle.command.specs.Forms.{Form}
 use Rattle.command.specs.declared.Reading.{Reading}
 use Rattle.command.specs.declared.Reading.the-variants.{NoShape}
-use Rattle.shapes.specs.Shapes.{Shape, startShape, replyShape, numberedShape, bareShape, formed, judged}
+use Rattle.shapes.specs.Shapes.{Shape, startShape, replyShape, numberedShape, bareShape, formed, readAs}
 -- passed on for those who compute with `readingOf`
 unfoldable pub use Rattle.shapes.specs.Shapes.{ruleAt, endAt, readParts, shapedFrom}
 use Rattle.shapes.specs.declared.FormWord.{FormWord}
@@ -64,4 +64,4 @@ longestLine = 120
 
 -- 'or over 120 bytes'
 unfoldable pub readingOf : List ℕ → Reading
-readingOf line = choose (leb (length line) longestLine) (λ _. judged (parse line)) (λ _. NoShape)
+readingOf line = choose (leb (length line) longestLine) (λ _. readAs (parse line)) (λ _. NoShape)

@@ -10,14 +10,14 @@ mod words;
 
 ghost use mathlib.Core.Path.{_≡_};
 ghost use Rattle.reader.specs.Reading.{parse, readingOf};
-ghost use Rattle.shapes.specs.Shapes.{judged};
+ghost use Rattle.shapes.specs.Shapes.{readAs};
 
 // The longest line, without its LF.
 pub const LONGEST_LINE: usize = 120;
 
 // The line walked along: the word of its form, then what is left as that form's parts.
 fn read_shape(line: &[u8]) -> Reading
-    ensures { λ r. ⌜ r ≡ judged (parse (now (line .entry))) ⌝ }
+    ensures { λ r. ⌜ r ≡ readAs (parse (now (line .entry))) ⌝ }
 {
     let walk = begin(line);
     let taken = word(walk);

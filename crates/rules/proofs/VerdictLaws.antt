@@ -11,6 +11,7 @@ use Rattle.bits.proofs.Tests.{by-test}
 use Rattle.moment.specs.Intervals.{Holds, bothInRange, edgesWithin}
 use Rattle.moment.specs.declared.Interval.{Interval}
 use Rattle.moment.proofs.Integers.{ints}
+use Rattle.moment.proofs.Within.{within-range}
 use Rattle.rules.specs.Rules.{conflicting, narrowed, outward, noWider, adopted}
 use Rattle.rules.specs.Verdict.{verdict, judgedBy, judged, leaves}
 use Rattle.rules.specs.declared.Rule.{Rule}
@@ -115,3 +116,13 @@ module _ (b : Interval) (span : ℤ) (reply edges : Interval) where
           → edgesWithin (choose t (λ _. verdict Conflict edges) (λ _. judgedBy rule b span reply edges) .edges) ≡ true
       go true c r = e
       go false c r = rule-within h d e c rule r
+
+  -- under im no edges leave the range
+  pub im-never-leaves : edgesWithin edges ≡ true → leaves (judged Im b span reply edges) ≡ false
+  unfolding judged judgedBy leaves
+  im-never-leaves e = go (conflicting b edges) refl
+    where
+      go : (t : Bool) → conflicting b edges ≡ t
+          → leaves (choose t (λ _. verdict Conflict edges) (λ _. judgedBy Im b span reply edges)) ≡ false
+      go true c = refl
+      go false c = rw (within-range (narrowed b edges) (narrowed-within b edges e c))

@@ -16,15 +16,16 @@ use Rattle.rules.specs.declared.Verdict.{Verdict}
 abbrev pub verdict : Finding → Interval → Verdict
 verdict finding edges = record { finding = finding; edges = edges }
 
--- 'rule im: the new edges are the larger lower and the smaller upper .. Answered `taken`. rule mm: if [it is no wider] the new edges are [the
--- reply's, moved outward], answered `taken`; if not, the keeper's edges stay, answered `kept`.'
+-- 'rule im: the new edges are the larger lower and the smaller upper', and the word is `taken`. 'rule mm: if LEADING - TRAILING + 2 times w times
+-- the longest tick is at most UPPER - LOWER, the new edges are TRAILING and LEADING, each moved outward', and the word is `taken`; if it is
+-- wider, nothing moves and the word is `kept`.
 unfoldable pub judgedBy : Rule → Interval → ℤ → Interval → Interval → Verdict
 judgedBy Im b span reply edges = verdict Taken (narrowed b edges)
 judgedBy Mm b span reply edges =
     choose (noWider span reply edges) (λ _. verdict Taken (adopted span reply)) (λ _. verdict Kept edges)
 
--- The verdict on a reply, from the rule, the reply's bracket, the span that its edges are moved outward by, its edges, and the keeper's.
--- 'If the bracket and the keeper's own edges share no moment, conflict: .. the edges stay'; this comes before the rule.
+-- The verdict on a reply, from the rule, the reply's bracket, the span that its edges are moved outward by, its edges, and the keeper's. If the
+-- bracket and the keeper's edges share no moment it is a conflict, whatever the rule, and 'the edges stay'.
 unfoldable pub judged : Rule → Interval → ℤ → Interval → Interval → Verdict
 judged rule b span reply edges =
     choose (conflicting b edges) (λ _. verdict Conflict edges) (λ _. judgedBy rule b span reply edges)
@@ -34,12 +35,13 @@ isTaken Conflict = false
 isTaken Taken = true
 isTaken Kept = false
 
--- 'conflict: the conflict count gains 1', whatever it was; at no other reply.
+-- 'the conflict count rises by 1' at a conflict, whatever it was, and at no other reply.
 abbrev pub conflictsAfter : ℕ → Finding → ℕ
 conflictsAfter conflicts Conflict = conflicts + 1
 conflictsAfter conflicts Taken = conflicts
 conflictsAfter conflicts Kept = conflicts
 
--- Refusal 5 of a reply: one taken whose edges leave the range.
+-- Refusal 5 of a reply: edges that would be taken leave the range. Only an adoption by rule mm can do so: `im-never-leaves` proves that under
+-- im no verdict on edges within the range does.
 unfoldable pub leaves : Verdict → Bool
 leaves v = isTaken (v .finding) && not (bothInRange (v .edges))

@@ -1,4 +1,4 @@
-// The rules as functions on edges. Those that ask for something are called by the keeper alone, which has tested it before.
+// The rules as functions on edges. Those that ask for something are called by the keeper, which has tested it before, and by `judge`.
 use moment::Interval;
 use moment::floor_half;
 use moment::intervals::Bounds;
@@ -37,7 +37,7 @@ pub fn bracket_of(claim: u16, w: u32, reply: Interval) -> Interval
 }
 
 // Rule im: the larger lower and the smaller upper edge.
-pub fn narrow(bracket: Interval, edges: Interval) -> Interval
+pub(crate) fn narrow(bracket: Interval, edges: Interval) -> Interval
     ensures { λ r. ⌜ r ≡ narrowed bracket edges ⌝ }
 {
     Interval {
@@ -54,7 +54,7 @@ pub fn outward_span(claim: u16, w: u32) -> i64
 }
 
 // Rule mm: whether the reply, with the span on either side, is no wider than the edges.
-pub fn no_wider(span: i64, reply: Interval, edges: Interval) -> bool
+pub(crate) fn no_wider(span: i64, reply: Interval, edges: Interval) -> bool
     requires { ⌜ Span span ⌝ }
     requires { ⌜ edgesWithin reply ≡ true ⌝ }
     requires { ⌜ edgesWithin edges ≡ true ⌝ }
@@ -65,7 +65,7 @@ pub fn no_wider(span: i64, reply: Interval, edges: Interval) -> bool
 }
 
 // Rule mm: both edges moved outward.
-pub fn adopt(span: i64, reply: Interval) -> Interval
+pub(crate) fn adopt(span: i64, reply: Interval) -> Interval
     requires { ⌜ Span span ⌝ }
     requires { ⌜ edgesWithin reply ≡ true ⌝ }
     ensures { λ r. ⌜ r ≡ adopted span reply ⌝ }

@@ -16,7 +16,7 @@ ghost use Rattle.rules.specs.Verdict.{judgedBy, judged, leaves, conflict
 ghost use Rattle.rules.specs.Spans.{Span};
 ghost use Rattle.rules.specs.declared.Rule.the-variants.{Mm};
 
-// Rule mm: a reply that is wider than the edges is let go.
+// Rule mm: of a reply that is wider than the edges nothing is taken.
 fn judge_by_width(bracket: Interval, span: i64, reply: Interval, edges: Interval) -> Verdict
     requires { ⌜ Span span ⌝ }
     requires { ⌜ edgesWithin reply ≡ true ⌝ }

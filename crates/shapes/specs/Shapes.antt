@@ -167,13 +167,13 @@ formed f none = none
 formed f (some v) = some (f v)
 
 -- 'line is no command shape' is refusal 1, and comes before refusal 2.
-abbrev pub judged : Option Form → Reading
-judged none = NoShape
-judged (some f) = limited f
+abbrev pub readAs : Option Form → Reading
+readAs none = NoShape
+readAs (some f) = limited f
 
 -- What a line is that begins with the shape's text, and goes on at the place.
 unfoldable pub shapedFrom : Shape → List ℕ → ℕ → Reading
-shapedFrom s line at = judged (formed (s .form) (readParts (s .kinds) line at))
+shapedFrom s line at = readAs (formed (s .form) (readParts (s .kinds) line at))
 
 -- What a line is that begins with the word, and goes on at the place.
 unfoldable pub restOf : FormWord → List ℕ → ℕ → Reading

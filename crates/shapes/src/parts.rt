@@ -1,5 +1,4 @@
 // The parts that end a line, and the rule's word: what several forms share.
-
 use command::accept::Edge;
 use numeral::read::Number;
 use numeral::read::Signed;

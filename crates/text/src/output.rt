@@ -1,3 +1,4 @@
+// Bytes put at a place of a lent output.
 ghost use Rattle.text.specs.Output.{Put};
 
 // Puts bytes at a place of the output and gives the place after them. Where they do not fit, nothing is touched and the place stays.

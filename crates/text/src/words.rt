@@ -1,3 +1,4 @@
+// Words of a form, compared with the bytes of a line.
 ghost use mathlib.Core.Path.{_≡_};
 ghost use Rattle.text.specs.Words.{wordAt};
 

@@ -44,7 +44,7 @@ use Rattle.command.specs.declared.Reading.{Reading}
 use Rattle.command.proofs.Reading as G
 use Rattle.command.proofs.Reading.Laws as G′
 use Rattle.reader.specs.Reading.{wordFrom, parse}
-use Rattle.shapes.specs.Shapes.{restOf, judged}
+use Rattle.shapes.specs.Shapes.{restOf, readAs}
 use Rattle.reader.specs.declared.walk.Walk.{Walk}
 use Rattle.reader.specs.declared.words.WordAt.{WordAt}
 use Rattle.reader.proofs.GrammarLaws.{walked-is-parsed}
@@ -168,13 +168,13 @@ module _ {M : Type 1} (𝓤 : URA M) (H : Heap 𝓤) (A : Atoms 𝓤) (W : Given
 
   -- what the four calls said together
   together : {r m : Walk} {t : WordAt} {g : Reading} → (r .line ≡ s) × (r .at ≡ 0) → t ≡ wordFrom (now (r .line)) (r .at) → (m .line ≡ r .line) × (m .at ≡ t .1)
-      → g ≡ restOf (t .0) (now (m .line)) (m .at) → g ≡ judged (parse (now s))
+      → g ≡ restOf (t .0) (now (m .line)) (m .at) → g ≡ readAs (parse (now s))
   together {r} {m} {t} {g} b w o e =
       e ∙ ap (λ (x : RefT (List ℕ)). restOf (t .0) (now x) (m .at)) (o .0 ∙ b .0) ∙ ap (restOf (t .0) (now s)) (o .1)
       ∙ ap (λ (x : WordAt). restOf (x .0) (now s) (x .1)) (w ∙ (ap (λ (x : RefT (List ℕ)). wordFrom (now x) (r .at)) (b .0) ∙ ap (wordFrom (now s)) (b .1)))
       ∙ walked-is-parsed (now s)
 
-  exits : (g : Reading) (u : Val) → g ≡ judged (parse (now s)) → ent 𝓤 (⋆ 𝓤 H A (‵ (G.the-row .own g (u ∷ [])) ∷ (‵ (flft κ q) ⊛ ‵ ftrue) ∷ ‵ Own ∷ [])) (Post u)
+  exits : (g : Reading) (u : Val) → g ≡ readAs (parse (now s)) → ent 𝓤 (⋆ 𝓤 H A (‵ (G.the-row .own g (u ∷ [])) ∷ (‵ (flft κ q) ⊛ ‵ ftrue) ∷ ‵ Own ∷ [])) (Post u)
   exits g u e =
       qed W (‵ (G.the-row .own g (u ∷ [])) ∷ (‵ (flft κ q) ⊛ ‵ ftrue) ∷ ‵ Own ∷ []) ∵
       suffices ! _ (ends-at 𝓤 H A f.ended stayed (f.clauses 𝓤 H A mem run) W (((κ, tt), (q, tt), tt, (s, tt), (v ∷ [], tt)), tt) u g (tt, tt) (tt, tt)) $ says ! e $
