@@ -24,7 +24,7 @@ use Rattle.keeper.specs.declared.Answer.the-variants as A
 abbrev pub outcomeOf : Answer → Keeper → Outcome
 outcomeOf a k = record { answer = a; keeper = k }
 
--- 'Start sets board, rule, claim and edges; all else becomes as in a fresh keeper.'
+-- 'Start sets board, rule, claim and edges (lower at most upper); all else becomes as in a fresh keeper.'
 unfoldable pub begun : ℕ → Rule → ℕ → Interval → Keeper
 unfolding fresh
 begun board rule claim edges =

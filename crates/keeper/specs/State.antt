@@ -15,7 +15,7 @@ use Rattle.command.specs.Limits.{boardWithin, claimWithin}
 use Rattle.keeper.specs.declared.Keeper.{Keeper}
 
 -- 'whether it has started, its board number 0..15, its rule, its claim, a lower and an upper edge, ticks passed since the start, requests
--- sent, the conflict count, and for each other board whether a request waits, its tag, and the tick count when it was sent'
+-- sent, the conflict count, and for each other board (a peer, 0..15) whether a request waits, its tag, and the tick count when it was sent'
 pub record State : Type 0 where
   pub started : Bool
   pub board : ℕ
