@@ -5,3 +5,4 @@ pub mod Outcomes
 pub mod Listing
 pub mod CallLaws
 pub mod Returned
+pub mod Accepted

@@ -1,4 +1,6 @@
 // The calls, by value: each takes a keeper and hands it back with its answer. The causes of a refusal are tried in document 01's order.
+// Each asks its caller for `started`, whether the keeper counts as started: who was handed a keeper tests it, and who makes one call after the
+// other on a keeper of its own knows it without a test.
 use crate::Answer;
 use crate::Keeper;
 use crate::Outcome;
@@ -28,7 +30,7 @@ use rules::judge::judge;
 use rules::judge::leaves_the_range;
 ghost use mathlib.Core.Path.{_≡_};
 ghost use Rattle.command.specs.declared.Command.the-variants as C;
-ghost use Rattle.keeper.specs.State.{fresh};
+ghost use Rattle.keeper.specs.State.{fresh, countsAsStarted};
 ghost use Rattle.keeper.specs.Apply.{apply};
 
 impl Keeper {
@@ -52,13 +54,14 @@ impl Keeper {
     }
 
     // A keeper that was handed in and does not count as started may be started.
-    pub fn start(self, board: u8, rule: Rule, claim: u16, edges: Interval) -> Outcome
+    pub fn start(self, started: bool, board: u8, rule: Rule, claim: u16, edges: Interval) -> Outcome
+        requires { ⌜ started ≡ countsAsStarted self ⌝ }
         ensures { λ r. ⌜ r ≡ apply self (C.Start board rule claim edges) ⌝ }
     {
         if !start_within(board, claim, edges) {
             return refused(self, 2);
         }
-        if self.counts_as_started() {
+        if started {
             return refused(self, 3);
         }
         Outcome {
@@ -68,13 +71,14 @@ impl Keeper {
     }
 
     // Refusal 5 is for an edge that would leave the range, and for ticks that would pass their most.
-    pub fn pass(self, ticks: u32) -> Outcome
+    pub fn pass(self, started: bool, ticks: u32) -> Outcome
+        requires { ⌜ started ≡ countsAsStarted self ⌝ }
         ensures { λ r. ⌜ r ≡ apply self (C.Pass ticks) ⌝ }
     {
         if !ticks_within(ticks as u64) {
             return refused(self, 2);
         }
-        if !self.counts_as_started() {
+        if !started {
             return refused(self, 3);
         }
         let Bounds::Within(edges) = widen(self.claim, ticks, self.edges) else {
@@ -90,25 +94,36 @@ impl Keeper {
         }
     }
 
+    // The pass of a keeper that is handed in, which is tested first.
+    pub fn pass_tested(self, ticks: u32) -> Outcome
+        ensures { λ r. ⌜ r ≡ apply self (C.Pass ticks) ⌝ }
+    {
+        let started = self.counts_as_started();
+        self.pass(started, ticks)
+    }
+
     // The tag is the number of requests sent so far, counting this one, so no two requests share a tag.
-    pub fn request(self, peer: u8) -> Outcome
+    pub fn request(self, started: bool, peer: u8) -> Outcome
+        requires { ⌜ started ≡ countsAsStarted self ⌝ }
         ensures { λ r. ⌜ r ≡ apply self (C.Request peer) ⌝ }
     {
-        let number = request_refusal(self, peer);
+        let number = request_refusal(self, started, peer);
         if number != 0 {
             return refused(self, number);
         }
+        let tag = self.requests + 1;
         Outcome {
-            answer: Answer::Sent(peer, self.requests + 1),
+            answer: Answer::Sent(peer, tag),
             keeper: asked_of(self, peer),
         }
     }
 
     // A reply without its request, or with another tag, is refused before its edges are held against the keeper's.
-    pub fn reply(self, peer: u8, tag: u32, edges: Interval) -> Outcome
+    pub fn reply(self, started: bool, peer: u8, tag: u32, edges: Interval) -> Outcome
+        requires { ⌜ started ≡ countsAsStarted self ⌝ }
         ensures { λ r. ⌜ r ≡ apply self (C.Reply peer tag edges) ⌝ }
     {
-        let number = wait_refusal(self, peer, tag, edges);
+        let number = wait_refusal(self, started, peer, tag, edges);
         if number != 0 {
             return refused(self, number);
         }
@@ -125,10 +140,11 @@ impl Keeper {
     }
 
     // Gives a request up: a late reply to it finds no request, or one with another tag.
-    pub fn drop(self, peer: u8) -> Outcome
+    pub fn drop(self, started: bool, peer: u8) -> Outcome
+        requires { ⌜ started ≡ countsAsStarted self ⌝ }
         ensures { λ r. ⌜ r ≡ apply self (C.Drop peer) ⌝ }
     {
-        let number = drop_refusal(self, peer);
+        let number = drop_refusal(self, started, peer);
         if number != 0 {
             return refused(self, number);
         }
@@ -139,10 +155,11 @@ impl Keeper {
     }
 
     // Nothing changes. The edges of a keeper that counts as started are in the range, so their sum fits.
-    pub fn read(self) -> Outcome
+    pub fn read(self, started: bool) -> Outcome
+        requires { ⌜ started ≡ countsAsStarted self ⌝ }
         ensures { λ r. ⌜ r ≡ apply self C.Read ⌝ }
     {
-        if !self.counts_as_started() {
+        if !started {
             return refused(self, 3);
         }
         let edges = self.edges;
@@ -159,10 +176,11 @@ impl Keeper {
     }
 
     // Nothing changes: the waiting peers and their tags are read from the keeper that is handed back.
-    pub fn waiting(self) -> Outcome
+    pub fn waiting(self, started: bool) -> Outcome
+        requires { ⌜ started ≡ countsAsStarted self ⌝ }
         ensures { λ r. ⌜ r ≡ apply self C.Waiting ⌝ }
     {
-        if !self.counts_as_started() {
+        if !started {
             return refused(self, 3);
         }
         Outcome {
@@ -173,7 +191,8 @@ impl Keeper {
 }
 
 // A command is the call of its name.
-pub fn apply_command(keeper: Keeper, command: Command) -> Outcome
+pub fn apply_command(keeper: Keeper, started: bool, command: Command) -> Outcome
+    requires { ⌜ started ≡ countsAsStarted keeper ⌝ }
     ensures { λ r. ⌜ r ≡ apply keeper command ⌝ }
 {
     match command {
@@ -182,12 +201,12 @@ pub fn apply_command(keeper: Keeper, command: Command) -> Outcome
             rule,
             claim,
             edges,
-        } => keeper.start(board, rule, claim, edges),
-        Command::Pass { ticks } => keeper.pass(ticks),
-        Command::Request { peer } => keeper.request(peer),
-        Command::Reply { peer, tag, edges } => keeper.reply(peer, tag, edges),
-        Command::Drop { peer } => keeper.drop(peer),
-        Command::Read => keeper.read(),
-        Command::Waiting => keeper.waiting(),
+        } => keeper.start(started, board, rule, claim, edges),
+        Command::Pass { ticks } => keeper.pass(started, ticks),
+        Command::Request { peer } => keeper.request(started, peer),
+        Command::Reply { peer, tag, edges } => keeper.reply(started, peer, tag, edges),
+        Command::Drop { peer } => keeper.drop(started, peer),
+        Command::Read => keeper.read(started),
+        Command::Waiting => keeper.waiting(started),
     }
 }

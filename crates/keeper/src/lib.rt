@@ -13,17 +13,17 @@ mod steps;
 // count when it was sent; a peer with none waiting holds 0 for both. The order of the fields leaves no gap before an array: with a gap,
 // the compiler makes each copy of a keeper by a call of memcpy.
 pub struct Keeper {
-    pub started: bool,
-    pub board: u8,
-    pub rule: Rule,
-    pub claim: u16,
-    pub waiting: u16,
-    pub edges: Interval,
-    pub ticks: u64,
+    pub sent_at: [u64; 16],
+    pub tags: [u32; 16],
     pub requests: u32,
     pub conflicts: u32,
-    pub tags: [u32; 16],
-    pub sent_at: [u64; 16],
+    pub claim: u16,
+    pub waiting: u16,
+    pub board: u8,
+    pub rule: Rule,
+    pub started: bool,
+    pub edges: Interval,
+    pub ticks: u64,
 }
 
 // What a command answers. `Refused` has the number of document 01's table.

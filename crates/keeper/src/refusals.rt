@@ -10,14 +10,15 @@ ghost use mathlib.Core.Path.{_≡_};
 ghost use mathlib.Core.List.{_++_};
 ghost use Rattle.command.specs.Causes.{first, ownCauses};
 ghost use Rattle.command.specs.declared.Command.the-variants as C;
-ghost use Rattle.keeper.specs.State.{stateOf};
+ghost use Rattle.keeper.specs.State.{stateOf, countsAsStarted};
 ghost use Rattle.keeper.specs.Refusals.{peerCauses, waitCauses, refusal};
 
 // 3 and 4.
-fn peer_refusal(keeper: Keeper, peer: u8) -> u8
+fn peer_refusal(keeper: Keeper, started: bool, peer: u8) -> u8
+    requires { ⌜ started ≡ countsAsStarted keeper ⌝ }
     ensures { λ r. ⌜ r ≡ first (peerCauses (stateOf keeper) peer) ⌝ }
 {
-    if !keeper.counts_as_started() {
+    if !started {
         return 3;
     }
     if peer == keeper.board {
@@ -26,13 +27,14 @@ fn peer_refusal(keeper: Keeper, peer: u8) -> u8
     0
 }
 
-pub(crate) fn request_refusal(keeper: Keeper, peer: u8) -> u8
+pub(crate) fn request_refusal(keeper: Keeper, started: bool, peer: u8) -> u8
+    requires { ⌜ started ≡ countsAsStarted keeper ⌝ }
     ensures { λ r. ⌜ r ≡ refusal (stateOf keeper) (C.Request peer) ⌝ }
 {
     if !board_within(peer as u64) {
         return 2;
     }
-    let number = peer_refusal(keeper, peer);
+    let number = peer_refusal(keeper, started, peer);
     if number != 0 {
         return number;
     }
@@ -46,13 +48,14 @@ pub(crate) fn request_refusal(keeper: Keeper, peer: u8) -> u8
 }
 
 // Those of a reply that come before its verdict.
-pub(crate) fn wait_refusal(keeper: Keeper, peer: u8, tag: u32, edges: Interval) -> u8
+pub(crate) fn wait_refusal(keeper: Keeper, started: bool, peer: u8, tag: u32, edges: Interval) -> u8
+    requires { ⌜ started ≡ countsAsStarted keeper ⌝ }
     ensures { λ r. ⌜ r ≡ first (ownCauses (C.Reply peer tag edges) ++ waitCauses (stateOf keeper) peer tag) ⌝ }
 {
     if !reply_within(peer, tag, edges) {
         return 2;
     }
-    let number = peer_refusal(keeper, peer);
+    let number = peer_refusal(keeper, started, peer);
     if number != 0 {
         return number;
     }
@@ -71,13 +74,14 @@ pub(crate) fn wait_refusal(keeper: Keeper, peer: u8, tag: u32, edges: Interval) 
     0
 }
 
-pub(crate) fn drop_refusal(keeper: Keeper, peer: u8) -> u8
+pub(crate) fn drop_refusal(keeper: Keeper, started: bool, peer: u8) -> u8
+    requires { ⌜ started ≡ countsAsStarted keeper ⌝ }
     ensures { λ r. ⌜ r ≡ refusal (stateOf keeper) (C.Drop peer) ⌝ }
 {
     if !board_within(peer as u64) {
         return 2;
     }
-    let number = peer_refusal(keeper, peer);
+    let number = peer_refusal(keeper, started, peer);
     if number != 0 {
         return number;
     }

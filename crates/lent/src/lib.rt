@@ -6,7 +6,7 @@ ghost use Rattle.lent.specs.Lent.{PassLent};
 pub fn pass_lent(keeper: &mut Keeper, ticks: u32) -> u8
     ensures { λ r. ⌜ PassLent (now (keeper .entry)) ticks r (now (keeper .exit)) ⌝ }
 {
-    let outcome = keeper.pass(ticks);
+    let outcome = keeper.pass_tested(ticks);
     *keeper = outcome.keeper;
     number_of(outcome.answer)
 }

@@ -3,3 +3,4 @@ pub mod Marked
 pub mod WroteLaws
 pub mod ResponseLaws
 pub mod CallCauses
+pub mod AnsweredLaws

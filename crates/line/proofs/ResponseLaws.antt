@@ -19,10 +19,11 @@ use Rattle.keeper.specs.declared.Keeper.{Keeper}
 use Rattle.keeper.specs.declared.Answer.{Answer}
 use Rattle.keeper.specs.declared.Answer.the-variants as A
 use Rattle.keeper.proofs.Listing.{listed-started}
-use Rattle.keeper.proofs.Returned.{apply-number, refused-keeps}
+use Rattle.keeper.proofs.Returned.{apply-number}
 use Rattle.keeper.proofs.Causes.{refusal-most}
 use Rattle.answers.specs.Answers.{leastOutput}
 use Rattle.line.specs.Call.{byReading, answered, numberAfter, keeperAfter, Wrote, Called}
+use Rattle.line.proofs.AnsweredLaws.{refused-same}
 
 pub listed : (k : Keeper) (line : List ℕ) → answered k line .answer ≡ A.Waiting → countsAsStarted (answered k line .keeper) ≡ true
 unfolding answered
@@ -58,14 +59,9 @@ module _ (k : Keeper) (line : List ℕ) where
   unfolding numberAfter answered
   number-most room = by-test (ltb room leastOutput) (λ t. rw t (omega arith)) (λ t. rw t (read-most (readingOf line)))
 
-  read-keeps : (r : Reading) → (numberOf (byReading r k .answer) ≡ 0 → ⊥) → byReading r k .keeper ≡ k
-  read-keeps (Accepted c) h = refused-keeps k c h
-  read-keeps NoShape h = refl
-  read-keeps OutsideLimits h = refl
-
   -- a refused call leaves the keeper as it was
   pub refused-leaves : (room : ℕ) → (numberAfter k line room ≡ 0 → ⊥) → keeperAfter k line room ≡ k
-  unfolding numberAfter keeperAfter answered
+  unfolding numberAfter keeperAfter
   refused-leaves room =
       by-test {P = (numberAfter k line room ≡ 0 → ⊥) → keeperAfter k line room ≡ k} (ltb room leastOutput)
-      (λ t h. rw t) (λ t h. rw t (read-keeps (readingOf line) (λ e. h (rw t e))))
+      (λ t h. rw t) (λ t h. rw t (refused-same k line (λ e. h (rw t e))))

@@ -33,7 +33,10 @@ fn answer_to(keeper: Keeper, line: &[u8]) -> Outcome
 {
     let reading = read_command(line);
     match reading {
-        Reading::Accepted(c) => apply_command(keeper, c),
+        Reading::Accepted(c) => {
+            let started = keeper.counts_as_started();
+            apply_command(keeper, started, c)
+        }
         Reading::NoShape => Outcome {
             answer: Answer::Refused(1),
             keeper,
@@ -46,7 +49,7 @@ fn answer_to(keeper: Keeper, line: &[u8]) -> Outcome
 }
 
 // Writes the line of an answer and its LF at the front of the output, and gives the length written.
-fn write_answer(out: &mut [u8], answer: Answer, keeper: Keeper) -> usize
+pub fn write_answer(out: &mut [u8], answer: Answer, keeper: Keeper) -> usize
     requires { ⌜ (leastOutput ≤ length (now out)) × (answer ≡ Waiting → countsAsStarted keeper ≡ true) ⌝ }
     ensures { λ r. ⌜ Wrote answer keeper (now (out .entry)) (now (out .exit)) r ⌝ }
 {

@@ -5,11 +5,12 @@ use mathlib.Core.List.{List, [], _∷_, _++_, append-assoc, append-nil}
 use Prim.Native.Nat.{ℕ, suc, _+_, _-_, _≤_, _<_}
 use native.Mathlib.Omega.{arith}
 use native.Mathlib.Numerals.{add-one}
-use borrow.Author.Tests.{le-ltb}
 use lib.ListN.{length, take, drop, length-append, length-drop, drop-of-length-le}
 use lib.Seq.{take-all, take-at, drop-at, drop-drop}
 use Rattle.keeper.specs.declared.Keeper.{Keeper}
-use Rattle.line.specs.Call.{answered, keeperAfter, Wrote, Called}
+use Rattle.keeper.specs.declared.Answer.{Answer}
+use Rattle.line.specs.Call.{answered, keeperAfter, Wrote}
+use Rattle.line.proofs.ResponseLaws.{wrote-within}
 use Rattle.lines.specs.Lines.{lf, breaks, lineLength, joined}
 use Rattle.lines.proofs.LineLaws.{joined-append, unbroken-append, line-whole, line-unbroken, whole-breaks, open-breaks}
 use Rattle.stream.specs.Stream.{through, Answers}
@@ -17,10 +18,15 @@ use Rattle.stream.proofs.Answering.{through-append, answers-append}
 use Rattle.serve.specs.Serving.{keeperNext, IsAnswer, Answered, LinesAnswered}
 use Rattle.answers.specs.Answers.{leastOutput}
 
--- the keeper after a line does not depend on the room, where there is enough
-pub room-enough : (k : Keeper) (l : List ℕ) (room : ℕ) → leastOutput ≤ room → keeperAfter k l room ≡ keeperNext k l
+-- A line is answered: the keeper after it, and its answer at the front of an output that has room for one.
+pub record Step (k : Keeper) (l before : List ℕ) (next : Keeper) (after : List ℕ) (n : ℕ) : Type 0 where
+  pub keeper-is : next ≡ answered k l .keeper
+  pub wrote : Wrote (answered k l .answer) (answered k l .keeper) before after n
+
+-- the keeper after a line that is given enough output
+next-is : (k : Keeper) (l : List ℕ) → answered k l .keeper ≡ keeperNext k l
 unfolding keeperAfter
-room-enough k l room h = rw (le-ltb room leastOutput h)
+next-is k l = refl
 
 pub none-answered : (k : Keeper) (bytes out : List ℕ) → Answered k bytes out k bytes 0 out
 unfolding through joined
@@ -45,13 +51,13 @@ more-written w before out b filled e f =
     let size : length (w ++ (b ++ lf ∷ [])) ≡ length w + (length b + 1) = rw (length-append w (b ++ lf ∷ []), length-append b (lf ∷ [])) in
     rw (front, behind, drop-drop (length b + 1) (length w) before, size, append-assoc w (b ++ lf ∷ []), append-assoc b (lf ∷ []))
 
--- One more line: `l` ends at an LF, the call answered it behind what was written, and `more` follows.
-pub one-answered : (l more : List ℕ) {k now next : Keeper} {bytes before rest out part out′ : List ℕ} {filled number n : ℕ}
-    → Answered k bytes before now rest filled out → rest ≡ l ++ lf ∷ more → breaks l ≡ 0 → leastOutput ≤ length (drop filled out)
-    → Called now l (drop filled out) number next part n → out′ ≡ take filled out ++ part → Answered k bytes before next more (filled + n) out′
+-- One more line: `l` ends at an LF, it was answered behind what was written, and `more` follows.
+pub one-answered : (l more : List ℕ) {k now next : Keeper} {bytes before rest out part out′ : List ℕ} {filled n : ℕ}
+    → Answered k bytes before now rest filled out → rest ≡ l ++ lf ∷ more → breaks l ≡ 0
+    → Step now l (drop filled out) next part n → out′ ≡ take filled out ++ part → Answered k bytes before next more (filled + n) out′
 unfolding through joined
-one-answered l more {k} {now} {next} {bytes} {before} {rest} {out} {part} {out′} {filled} {number} {n} a here unbroken room called e =
-    let wrote = called .written room in
+one-answered l more {k} {now} {next} {bytes} {before} {rest} {out} {part} {out′} {filled} {n} a here unbroken step e =
+    let wrote = step .wrote in
     let b = wrote .bytes in
     record {
       lines = a .lines ++ l ∷ [];
@@ -62,8 +68,8 @@ one-answered l more {k} {now} {next} {bytes} {before} {rest} {out} {part} {out�
           ∙ sym (rw (joined-append (a .lines) (l ∷ []), append-assoc (joined (a .lines)) (l ++ lf ∷ []) more, append-assoc l (lf ∷ []) more));
       whole = unbroken-append (a .lines) (l ∷ []) (a .whole) (unbroken, tt);
       keeper-is =
-          called .keeper-is
-          ∙ room-enough now l (length (drop filled out)) room
+          step .keeper-is
+          ∙ next-is now l
           ∙ ap (λ (x : Keeper). keeperNext x l) (a .keeper-is)
           ∙ sym (through-append keeperNext k (a .lines) (l ∷ []));
       answers =
@@ -84,18 +90,21 @@ one-answered l more {k} {now} {next} {bytes} {before} {rest} {out} {part} {out�
 part-lent : (out : List ℕ) (filled : ℕ) → take (length out - filled) (drop filled out) ≡ drop filled out
 part-lent out filled = take-all (length out - filled) (drop filled out) (simp length-drop (omega arith))
 
+-- the part has the room that is left
+pub part-room : (out : List ℕ) (filled : ℕ) → leastOutput ≤ length out - filled → leastOutput ≤ length (take (length out - filled) (drop filled out))
+part-room out filled h = rw (part-lent out filled) (simp length-drop h)
+
 part-back : (out part : List ℕ) (filled : ℕ) → take filled out ++ (part ++ drop (length out - filled) (drop filled out)) ≡ take filled out ++ part
 part-back out part filled =
     let past : length (drop filled out) ≤ length out - filled = simp length-drop (omega arith) in
     rw (drop-of-length-le (drop filled out) past, append-nil part)
 
--- The line that begins at `next` ends at the LF at `at`: the call with it, on the part of the output behind what is filled.
-pub line-answered : (bytes : List ℕ) (from at : ℕ) {k now next : Keeper} {all before out part : List ℕ} {filled number n : ℕ}
+-- The line that begins at `from` ends at the LF at `at`: it is answered on the part of the output behind what is filled.
+pub line-answered : (bytes : List ℕ) (from at : ℕ) {k now next : Keeper} {all before out part : List ℕ} {filled n : ℕ}
     → Answered k all before now (drop from bytes) filled out → at ≡ from + lineLength (drop from bytes) → at < length bytes
-    → filled + leastOutput ≤ length out
-    → Called now (take (at - from) (drop from bytes)) (take (length out - filled) (drop filled out)) number next part n
+    → Step now (take (at - from) (drop from bytes)) (take (length out - filled) (drop filled out)) next part n
     → Answered k all before next (drop (at + 1) bytes) (filled + n) (take filled out ++ (part ++ drop (length out - filled) (drop filled out)))
-line-answered bytes from at {out = out} {part = part} {filled = filled} a e within room called =
+line-answered bytes from at {out = out} {part = part} {filled = filled} a e within step =
     let rest = drop from bytes in
     let size : at - from ≡ lineLength rest = omega arith in
     let ends : lineLength rest < length rest = simp length-drop (omega arith) in
@@ -104,14 +113,14 @@ line-answered bytes from at {out = out} {part = part} {filled = filled} a e with
     one-answered (take (at - from) rest) (drop (at + 1) bytes) a
     (line-whole rest ends ∙ rw (size, behind))
     (rw size (line-unbroken rest))
-    (simp length-drop (omega arith))
-    (rw (part-lent out filled) at called)
+    (rw (part-lent out filled) at step)
     (part-back out part filled)
 
 -- what is written lies within the output
-pub filled-within : (out : List ℕ) (filled : ℕ) {k next : Keeper} {l part : List ℕ} {number n : ℕ} → filled ≤ length out
-    → Called k l (take (length out - filled) (drop filled out)) number next part n → filled + n ≤ length out
-filled-within out filled h called = omega (arith, called .within, length-drop filled out, ap length (part-lent out filled))
+pub filled-within : (out : List ℕ) (filled : ℕ) {a : Answer} {k : Keeper} {part : List ℕ} {n : ℕ} → filled ≤ length out
+    → length part ≡ length (take (length out - filled) (drop filled out)) → Wrote a k (take (length out - filled) (drop filled out)) part n
+    → filled + n ≤ length out
+filled-within out filled h same wrote = omega (arith, wrote-within wrote same, length-drop filled out, ap length (part-lent out filled))
 
 -- the end: a whole line is left and there is no room, or none is left
 pub stopped-full : (bytes : List ℕ) (from at : ℕ) {k now : Keeper} {all before out : List ℕ} {filled : ℕ}

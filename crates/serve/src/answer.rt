@@ -1,8 +1,13 @@
 // The answers to the lines of a buffer, without input or output.
+use command::Reading;
+use keeper::Answer;
 use keeper::Keeper;
+use keeper::calls::apply_command;
+use keeper::number::number_of;
 use line::LEAST_OUTPUT;
-use line::call;
+use line::write_answer;
 use lines::line_end;
+use reader::read_command;
 ghost use lib.ListN.{drop};
 ghost use Rattle.serve.specs.Serving.{LinesAnswered};
 
@@ -21,21 +26,32 @@ pub fn answer_lines(keeper: Keeper, bytes: &[u8], from: usize, out: &mut [u8]) -
     ensures { λ r. ⌜ LinesAnswered keeper (drop from (now (bytes .entry))) (now (out .entry)) (r .keeper) (drop (r .from) (now (bytes .entry))) (r .filled) (r .full) (now (out .exit)) ⌝ }
 {
     let mut now = keeper;
+    let mut started = keeper.counts_as_started();
     let mut next = from;
     let mut filled: usize = 0;
     let mut at = line_end(bytes, next);
     while at < bytes.len() {
         if out.len() - filled < LEAST_OUTPUT {
-            return Lines {
-                keeper: now,
-                from: next,
-                filled,
-                full: true,
-            };
+            break;
         }
-        let answered = call(now, &bytes[next..at], &mut out[filled..]);
-        now = answered.keeper;
-        filled += answered.length;
+        let reading = read_command(&bytes[next..at]);
+        let mut answer = Answer::Refused(1);
+        match reading {
+            Reading::Accepted(c) => {
+                let outcome = apply_command(now, started, c);
+                now = outcome.keeper;
+                answer = outcome.answer;
+            }
+            Reading::NoShape => {}
+            Reading::OutsideLimits => {
+                answer = Answer::Refused(2);
+            }
+        }
+        if number_of(answer) == 0 {
+            started = true;
+        }
+        let length = write_answer(&mut out[filled..], answer, now);
+        filled += length;
         next = at + 1;
         at = line_end(bytes, next);
     }
@@ -43,6 +59,6 @@ pub fn answer_lines(keeper: Keeper, bytes: &[u8], from: usize, out: &mut [u8]) -
         keeper: now,
         from: next,
         filled,
-        full: false,
+        full: at < bytes.len(),
     }
 }

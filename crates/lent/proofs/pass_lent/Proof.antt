@@ -1,5 +1,5 @@
--- `lent::pass_lent` meets its contract: a walk of its MIR, by hand. The borrow is opened, the keeper behind it is copied and passed to `pass`, the keeper of the outcome is stored in its place, the borrow is closed at that keeper, and the outcome's answer is passed to `number_of`.
--- All that the proof knows of `pass` and of `number_of` is that each meets its contract. A `Keeper`, an `Answer` and an `Outcome` are plain data: what one owns is made anew from its relation where it is asked for.
+-- `lent::pass_lent` meets its contract: a walk of its MIR, by hand. The borrow is opened, the keeper behind it is copied and passed to `pass_tested`, the keeper of the outcome is stored in its place, the borrow is closed at that keeper, and the outcome's answer is passed to `number_of`.
+-- All that the proof knows of `pass_tested` and of `number_of` is that each meets its contract. A `Keeper`, an `Answer` and an `Outcome` are plain data: what one owns is made anew from its relation where it is asked for.
 -- Assumes nothing.
 use mathlib.Core.Path.{_≡_, refl, ap, _∙_}
 use Prim.Native.Nat.{ℕ, _<_, _^_}
@@ -52,10 +52,10 @@ use Rattle.keeper.proofs.Answer as Ans
 use Rattle.keeper.proofs.Answer.Laws as Ans′
 use Rattle.keeper.proofs.Outcome as O
 use Rattle.keeper.proofs.Outcome.Laws as O′
-use Rattle.keeper.proofs.Keeper.pass as pass
-use Rattle.keeper.proofs.Keeper.pass.Symbol as pass-def
-use Rattle.keeper.proofs.Keeper.pass.Symbol.{name as #keeper·Keeper·pass}
-use Rattle.keeper.proofs.Keeper.pass.Met as pass-thm
+use Rattle.keeper.proofs.Keeper.pass_tested as pass
+use Rattle.keeper.proofs.Keeper.pass_tested.Symbol as pass-def
+use Rattle.keeper.proofs.Keeper.pass_tested.Symbol.{name as #keeper·Keeper·pass-tested}
+use Rattle.keeper.proofs.Keeper.pass_tested.Met as pass-thm
 use Rattle.keeper.proofs.number.number_of as number-of
 use Rattle.keeper.proofs.number.number_of.Symbol as number-of-def
 use Rattle.keeper.proofs.number.number_of.Symbol.{name as #keeper·number·number-of}
@@ -127,7 +127,7 @@ module _ {M : Type 1} (𝓤 : URA M) (H : Heap 𝓤) (A : Atoms 𝓤) (W : Given
       nothing ! $ move ! (3 ∷ 0 ∷ []) $ join ! $ frame ! $ feqI ! (List Val) (vptr b o ∷ []) (vptr b o ∷ []) refl $ fjoin3 ! $
       nothing ! $ owned ! u32 (Is u32) (uint-makes 𝓤 H A W w32) n _ (refl, fits) $ fjoin ! $ move ! (1 ∷ 0 ∷ []) $ fjoin ! $ done !
 
-  -- the call of `pass`: what it is passed, and what it asks
+  -- the call of `pass_tested`: what it is passed, and what it asks
   abbrev to-pass : Pass 𝓤 H A at-mem run .Ghost
   to-pass = ((tt, tt, tt, (h, (n, tt)), (keeper-val h ∷ [], (vint w32 n ∷ [], tt))), tt)
 
@@ -143,7 +143,7 @@ module _ {M : Type 1} (𝓤 : URA M) (H : Heap 𝓤) (A : Atoms 𝓤) (W : Given
   goes-number-of : (a : Answer) → ent 𝓤 (sem 𝓤 H A (Ans.the-row .own a (answer-val a ∷ []))) (NumberOf 𝓤 H A at-mem run .pre (to-number-of a))
   goes-number-of a = qed W (‵ (Ans.the-row .own a (answer-val a ∷ [])) ∷ []) ∵ nothing ! $ move ! (1 ∷ 0 ∷ []) $ fjoin ! $ nothing ! $ join ! $ frame ! $ done !
 
-  module _ (C : Calls 𝓤 H) (Λ : Loops 𝓤 H) (fm : FmC 𝓤 H (W .laws) C) (known-pass : Triple 𝓤 (C #keeper·Keeper·pass) (Pass 𝓤 H A at-mem run)) (known-number-of : Triple 𝓤 (C #keeper·number·number-of) (NumberOf 𝓤 H A at-mem run)) where
+  module _ (C : Calls 𝓤 H) (Λ : Loops 𝓤 H) (fm : FmC 𝓤 H (W .laws) C) (known-pass : Triple 𝓤 (C #keeper·Keeper·pass-tested) (Pass 𝓤 H A at-mem run)) (known-number-of : Triple 𝓤 (C #keeper·number·number-of) (NumberOf 𝓤 H A at-mem run)) where
     walk : ent 𝓤 (onEntry 𝓤 H A pass-lent.signature (κ, tt) (q, tt) x at) (WpFn 𝓤 H C Λ code.function (vptr b o ∷ vint w32 n ∷ []) Post)
     walk =
         qed W ((‵ (flft κ q) ⊛ ‵ ftrue) ∷ ‵ (owns (MutRef (named 0) κ K.the-row ∷ u32 ∷ []) x at) ∷ []) ∵ split ! $ move ! (2 ∷ []) $ fsplit ! $ fsplit3 ! $ drop ! $ move ! (0 ∷ 1 ∷ 3 ∷ []) $
@@ -155,7 +155,7 @@ module _ {M : Type 1} (𝓤 : URA M) (H : Heap 𝓤) (A : Atoms 𝓤) (W : Given
         move ! (1 ∷ []) $ peeks ! K.the-row (Is K.the-row) (shows 𝓤 H A K.the-row) h (keeper-val h ∷ []) (λ g.
         -- [what the keeper owns; the keeper's cell; the open borrow; obs; auth; room for _4; …; room for _3; …; _2; …; _1; …; room for _0; …]
         assigns ! (of-opd ! (load ! (from ! (hop ! (look ! 11 refl) (stop !))) (look-raw ! 1 refl))) (from ! (stop !)) (init ! 5 refl (LL.lawful K.the-type K′.the-laws 𝓤 H A W .typed h _ g .0)) $
-        -- the copy goes to `pass`, and its outcome into _3
+        -- the copy goes to `pass_tested`, and its outcome into _3
         use1 W (raw (Pass 𝓤 H A at-mem run .pre to-pass)) goes-pass $
         calls-at ! fm (Pass 𝓤 H A at-mem run) known-pass to-pass (and-then ! (load ! (from ! (stop !)) (look ! 5 refl)) (and-then ! (load ! (from ! (stop !)) (look ! 9 refl)) (no-more !))) (λ v.
         use1 W (later (some (λ (p : Outcome). (‵ ftrue ⊛ ‵ (O.the-row .own p (v ∷ []))) ⊛ raw (ensured 𝓤 H A pass.ended (pass.clauses 𝓤 H A at-mem run) tt (h, (n, tt)) tt p)))) (id⊢ 𝓤 _) $ await ! tt $ pick ! (λ p.
@@ -178,7 +178,7 @@ module _ {M : Type 1} (𝓤 : URA M) (H : Heap 𝓤) (A : Atoms 𝓤) (W : Given
         keep ! (1 ∷ 2 ∷ 3 ∷ 0 ∷ []) $ by ! (exits (p .keeper) m w (lent h n p m e f)))))))))))))))))
 
 module _ {M : Type 1} (𝓤 : URA M) (H : Heap 𝓤) (A : Atoms 𝓤) (W : Given 𝓤 H A) (at-mem : Memory → SProp 𝓤) (run : Routine → Fun 𝓤) where
-  pass-lent-walks : (C : Calls 𝓤 H) (Λ : Loops 𝓤 H) → FmC 𝓤 H (W .laws) C → Triple 𝓤 (C #keeper·Keeper·pass) (Pass 𝓤 H A at-mem run) → Triple 𝓤 (C #keeper·number·number-of) (NumberOf 𝓤 H A at-mem run)
+  pass-lent-walks : (C : Calls 𝓤 H) (Λ : Loops 𝓤 H) → FmC 𝓤 H (W .laws) C → Triple 𝓤 (C #keeper·Keeper·pass-tested) (Pass 𝓤 H A at-mem run) → Triple 𝓤 (C #keeper·number·number-of) (NumberOf 𝓤 H A at-mem run)
       → Walks 𝓤 H A pass-lent.ended stayed (WpFn 𝓤 H C Λ code.function) (pass-lent.clauses 𝓤 H A at-mem run)
   pass-lent-walks C Λ fm known-pass known-number-of = walked 𝓤 H A pass-lent.ended stayed (pass-lent.clauses 𝓤 H A at-mem run) (WpFn 𝓤 H C Λ code.function) (λ κs. (ptr-vals, (uint-vals w32, tt))) (λ κs. (mut-tells (named 0) (κs .0) K.the-row, (uint-tells w32, tt)))
       (λ κs qs bounds a g are. via 𝓤 _ (fst∗ 𝓤 _ (emp 𝓤)) (walk 𝓤 H A W at-mem run (κs .0) (qs .0) (a .0 .ptr .0) (a .0 .ptr .1) (a .0 .name) (a .0 .now) (a .1 .0) (are .1 .0 .1) C Λ fm known-pass known-number-of))
@@ -187,7 +187,7 @@ module _ {M : Type 1} (𝓤 : URA M) (H : Heap 𝓤) (A : Atoms 𝓤) (W : Given
   goes = (goes-ref 𝓤 H A W 1 0 tt (plain (λ _. K.the-row)), (goes-none 𝓤 H A W 1 (λ _. u32) yes (λ κs x f. refl), tt))
 
 pass-lent-meets : {M : Type 1} (𝓤 : URA M) (H : Heap 𝓤) (A : Atoms 𝓤) (W : Given 𝓤 H A) (at-mem : Memory → SProp 𝓤) (run : Routine → Fun 𝓤) (𝓣 : Tables 𝓤 H)
-    → Triple 𝓤 (𝓣 .C #keeper·Keeper·pass) (Pass 𝓤 H A at-mem run) → Triple 𝓤 (𝓣 .C #keeper·number·number-of) (NumberOf 𝓤 H A at-mem run)
+    → Triple 𝓤 (𝓣 .C #keeper·Keeper·pass-tested) (Pass 𝓤 H A at-mem run) → Triple 𝓤 (𝓣 .C #keeper·number·number-of) (NumberOf 𝓤 H A at-mem run)
     → Meets 𝓤 H A pass-lent.signature (WpFn 𝓤 H (𝓣 .C) (𝓣 .Λ) code.function) (pass-lent.spec 𝓤 H A at-mem run)
 pass-lent-meets 𝓤 H A W at-mem run 𝓣 known-pass known-number-of =
     walk-meets 𝓤 H A pass-lent.ended stayed W (goes 𝓤 H A W at-mem run) (pass-lent.clauses 𝓤 H A at-mem run) (WpFn 𝓤 H (𝓣 .C) (𝓣 .Λ) code.function) (WpFn-mono 𝓤 H (W .laws) 𝓣 code.function)
@@ -199,5 +199,5 @@ pass-lent-spec 𝓤 H 𝓜 𝓖 𝓡 =
     entered 𝓤 H (tripleOf 𝓤 H (𝓖 .A) pass-lent.signature (pass-lent.spec 𝓤 H (𝓖 .A) (𝓜 .mem) (𝓡 .run)))
     (tables 𝓤 H 𝓜 𝓡 code.env .C) (tables 𝓤 H 𝓜 𝓡 code.env .Λ) #lent·pass-lent code.function (code.unfolded 𝓤 H 𝓜 𝓡)
     (pass-lent-meets 𝓤 H (𝓖 .A) (givenOf 𝓤 H 𝓜 𝓖) (𝓜 .mem) (𝓡 .run) (tablesOf 𝓤 H 𝓜 (tables 𝓤 H 𝓜 𝓡 code.env))
-    (cited 𝓤 H (Pass 𝓤 H (𝓖 .A) (𝓜 .mem) (𝓡 .run)) 𝓜 𝓡 code.env #keeper·Keeper·pass pass-def.routine code.calls-keeper·Keeper·pass (pass-thm.met 𝓤 H 𝓜 𝓖 𝓡))
+    (cited 𝓤 H (Pass 𝓤 H (𝓖 .A) (𝓜 .mem) (𝓡 .run)) 𝓜 𝓡 code.env #keeper·Keeper·pass-tested pass-def.routine code.calls-keeper·Keeper·pass-tested (pass-thm.met 𝓤 H 𝓜 𝓖 𝓡))
     (cited 𝓤 H (NumberOf 𝓤 H (𝓖 .A) (𝓜 .mem) (𝓡 .run)) 𝓜 𝓡 code.env #keeper·number·number-of number-of-def.routine code.calls-keeper·number·number-of (number-of-thm.met 𝓤 H 𝓜 𝓖 𝓡)))

@@ -30,22 +30,19 @@ returns c =
     (apply-refused (x .self) (C.Pass (x .ticks)) 2 refl
     (rw (sym (c .before .before .ticks-within .ensures) ∙ not-true _ (c .before .if1 .taken))))
 
-counts-as-started-requires : tie.Need-counts-as-started-requires
-counts-as-started-requires c κs = search needs
-
 refused-requires-2 : tie.Need-refused-requires-2
 refused-requires-2 c κs = search needs
 
 returns-2 : tie.Need-returns-2
 unfolding refusal first causes ownCauses keeperCauses stateOf
 returns-2 c =
-    let x = c .before .before .before .before .before .args in
+    let x = c .before .before .before .before .args in
     c .refused2 .ensures
     ∙ sym
     (apply-refused (x .self) (C.Pass (x .ticks)) 3 refl
     (rw (
-      sym (c .before .before .before .before .ticks-within .ensures) ∙ not-false _ (c .before .before .before .if1 .left),
-      sym (c .before .before .counts-as-started .ensures) ∙ not-true _ (c .before .if2 .taken),
+      sym (c .before .before .before .ticks-within .ensures) ∙ not-false _ (c .before .before .if1 .left),
+      sym (c .before .before .before .before .pre) ∙ not-true _ (c .before .if2 .taken),
     )))
 
 widen-requires : tie.Need-widen-requires
@@ -63,20 +60,20 @@ refused-requires-3 c κs = search needs
 returns-3 : tie.Need-returns-3
 unfolding refusal first causes ownCauses keeperCauses stateOf
 returns-3 c =
-    let x = c .before .before .before .before .before .before .before .before .args in
+    let x = c .before .before .before .before .before .before .before .args in
     c .refused3 .ensures
     ∙ sym
     (apply-refused (x .self) (C.Pass (x .ticks)) 5 refl
     (rw (
-      sym (c .before .before .before .before .before .before .before .ticks-within .ensures) ∙ not-false _ (c .before .before .before .before .before .before .if1 .left),
-      sym (c .before .before .before .before .before .counts-as-started .ensures) ∙ not-false _ (c .before .before .before .before .if2 .left),
+      sym (c .before .before .before .before .before .before .ticks-within .ensures) ∙ not-false _ (c .before .before .before .before .before .if1 .left),
+      sym (c .before .before .before .before .before .before .before .pre) ∙ not-false _ (c .before .before .before .before .if2 .left),
       placed-outside _ (sym (c .before .before .before .widen .ensures) ∙ c .before .enum-told .given .1),
     )))
 
 add-total : tie.Need-add-total
 add-total c =
-    let x = c .before .before .before .before .before .before .before .before .before .args in
-    omega (arith, started-read (x .self) (sym (c .before .before .before .before .before .before .counts-as-started .ensures) ∙ not-false _ (c .before .before .before .before .before .if2 .left)) .ticks, ticks-bound _ (sym (c .before .before .before .before .before .before .before .before .ticks-within .ensures) ∙ not-false _ (c .before .before .before .before .before .before .before .if1 .left)))
+    let x = c .before .before .before .before .before .before .before .before .args in
+    omega (arith, started-read (x .self) (sym (c .before .before .before .before .before .before .before .before .pre) ∙ not-false _ (c .before .before .before .before .before .if2 .left)) .ticks, ticks-bound _ (sym (c .before .before .before .before .before .before .before .ticks-within .ensures) ∙ not-false _ (c .before .before .before .before .before .before .if1 .left)))
 
 refused-requires-4 : tie.Need-refused-requires-4
 refused-requires-4 c κs = search needs
@@ -84,14 +81,14 @@ refused-requires-4 c κs = search needs
 returns-4 : tie.Need-returns-4
 unfolding refusal first causes ownCauses keeperCauses stateOf
 returns-4 c =
-    let x = c .before .before .before .before .before .before .before .before .before .before .before .args in
+    let x = c .before .before .before .before .before .before .before .before .before .before .args in
     let (in-range, same) = placed-within _ _ (sym (c .before .before .before .before .before .before .widen .ensures) ∙ c .before .before .before .before .edges .given .1) in
     c .refused4 .ensures
     ∙ sym
     (apply-refused (x .self) (C.Pass (x .ticks)) 5 refl
     (rw (
-      sym (c .before .before .before .before .before .before .before .before .before .before .ticks-within .ensures) ∙ not-false _ (c .before .before .before .before .before .before .before .before .before .if1 .left),
-      sym (c .before .before .before .before .before .before .before .before .counts-as-started .ensures) ∙ not-false _ (c .before .before .before .before .before .before .before .if2 .left),
+      sym (c .before .before .before .before .before .before .before .before .before .ticks-within .ensures) ∙ not-false _ (c .before .before .before .before .before .before .before .before .if1 .left),
+      sym (c .before .before .before .before .before .before .before .before .before .before .pre) ∙ not-false _ (c .before .before .before .before .before .before .before .if2 .left),
       in-range,
       lt-leb _ _ (c .before .if3 .taken),
     )))
@@ -102,13 +99,13 @@ passed-to-requires c κs = search needs
 returns-5 : tie.Need-returns-5
 unfolding refusal first causes ownCauses keeperCauses stateOf
 returns-5 c =
-    let x = c .before .before .before .before .before .before .before .before .before .before .before .args in
+    let x = c .before .before .before .before .before .before .before .before .before .before .args in
     let (in-range, same) = placed-within _ _ (sym (c .before .before .before .before .before .before .widen .ensures) ∙ c .before .before .before .before .edges .given .1) in
     rw (c .passed-to .ensures, same)
     (sym (apply-accepted (x .self) (C.Pass (x .ticks))
     (rw (
-      sym (c .before .before .before .before .before .before .before .before .before .before .ticks-within .ensures) ∙ not-false _ (c .before .before .before .before .before .before .before .before .before .if1 .left),
-      sym (c .before .before .before .before .before .before .before .before .counts-as-started .ensures) ∙ not-false _ (c .before .before .before .before .before .before .before .if2 .left),
+      sym (c .before .before .before .before .before .before .before .before .before .ticks-within .ensures) ∙ not-false _ (c .before .before .before .before .before .before .before .before .if1 .left),
+      sym (c .before .before .before .before .before .before .before .before .before .before .pre) ∙ not-false _ (c .before .before .before .before .before .before .before .if2 .left),
       in-range,
       le-leb _ _ (c .before .if3 .left),
     )) ∙ pass-widens (x .self) (x .ticks)))
@@ -120,7 +117,6 @@ pass-spec =
     ticks-within-requires
     refused-requires
     returns
-    counts-as-started-requires
     refused-requires-2
     returns-2
     widen-requires

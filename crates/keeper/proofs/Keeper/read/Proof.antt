@@ -14,30 +14,27 @@ use Rattle.keeper.proofs.StartedLaws.{started-read}
 use Rattle.keeper.proofs.Keeper.read.Statement.{statement}
 use Rattle.keeper.proofs.Keeper.read.Tie as tie
 
-counts-as-started-requires : tie.Need-counts-as-started-requires
-counts-as-started-requires c κs = search needs
-
 refused-requires : tie.Need-refused-requires
 refused-requires c κs = search needs
 
 returns : tie.Need-returns
 unfolding refusal first causes ownCauses keeperCauses stateOf
 returns c =
-    let x = c .before .before .before .args in
+    let x = c .before .before .args in
     c .refused .ensures
     ∙ sym
     (apply-refused (x .self) (C.Read) 3 refl
-    (rw (sym (c .before .before .counts-as-started .ensures) ∙ not-true _ (c .before .if1 .taken))))
+    (rw (sym (c .before .before .pre) ∙ not-true _ (c .before .if1 .taken))))
 
 centre-of-requires : tie.Need-centre-of-requires
 centre-of-requires c κs =
-    let x = c .before .before .before .args in
-    started-read (x .self) (sym (c .before .before .counts-as-started .ensures) ∙ not-false _ (c .before .if1 .left)) .edges
+    let x = c .before .before .args in
+    started-read (x .self) (sym (c .before .before .pre) ∙ not-false _ (c .before .if1 .left)) .edges
 
 error-of-requires : tie.Need-error-of-requires
 error-of-requires c κs =
-    let x = c .before .before .before .before .args in
-    started-read (x .self) (sym (c .before .before .before .counts-as-started .ensures) ∙ not-false _ (c .before .before .if1 .left)) .edges
+    let x = c .before .before .before .args in
+    started-read (x .self) (sym (c .before .before .before .pre) ∙ not-false _ (c .before .before .if1 .left)) .edges
 
 count-of-requires : tie.Need-count-of-requires
 count-of-requires c κs = search needs
@@ -45,17 +42,16 @@ count-of-requires c κs = search needs
 returns-2 : tie.Need-returns-2
 unfolding refusal first causes ownCauses keeperCauses stateOf accepted told
 returns-2 c =
-    let x = c .before .before .before .before .before .before .args in
+    let x = c .before .before .before .before .before .args in
     let m = c .before .before .centre-of in
     let e = c .before .error-of in
     rw (c .count-of .ensures, got (m .result) (m .ok), got (e .result) (e .ok), m .ensures, e .ensures)
-    (sym (apply-accepted (x .self) C.Read (rw (sym (c .before .before .before .before .before .counts-as-started .ensures) ∙ not-false _ (c .before .before .before .before .if1 .left)))))
+    (sym (apply-accepted (x .self) C.Read (rw (sym (c .before .before .before .before .before .pre) ∙ not-false _ (c .before .before .before .before .if1 .left)))))
 
 pub read-spec : {M : Type 1} → statement M
 read-spec =
     tie.close
     (tie.spec
-    counts-as-started-requires
     refused-requires
     returns
     centre-of-requires

@@ -25,9 +25,9 @@ returns c =
     let x = c .before .before .before .args in
     c .refused .ensures ∙ apply-number-refused (x .self) (C.Request (x .peer)) _ (c .before .if1 .taken) (c .before .before .request-refusal .ensures)
 
-add-t5 : tie.Need-add-t5
+add-tag : tie.Need-add-tag
 unfolding causes ownCauses keeperCauses stateOf
-add-t5 c =
+add-tag c =
     let x = c .before .before .before .args in
     let none = accepted-none (stateOf (x .self)) (C.Request (x .peer)) (sym (c .before .before .request-refusal .ensures) ∙ c .before .if1 .left) in
     omega (arith, leb-false mostRequests (x .self .requests) (none .1 .1 .1 .1 .0))
@@ -53,6 +53,6 @@ request-spec =
     request-refusal-requires
     refused-requires
     returns
-    add-t5
+    add-tag
     asked-of-requires
     returns-2)

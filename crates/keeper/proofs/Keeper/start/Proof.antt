@@ -26,22 +26,19 @@ returns c =
     (apply-refused (x .self) (C.Start (x .board) (x .rule) (x .claim) (x .edges)) 2 refl
     (rw (sym (c .before .before .start-within .ensures) ∙ not-true _ (c .before .if1 .taken))))
 
-counts-as-started-requires : tie.Need-counts-as-started-requires
-counts-as-started-requires c κs = search needs
-
 refused-requires-2 : tie.Need-refused-requires-2
 refused-requires-2 c κs = search needs
 
 returns-2 : tie.Need-returns-2
 unfolding refusal first causes ownCauses keeperCauses stateOf
 returns-2 c =
-    let x = c .before .before .before .before .before .args in
+    let x = c .before .before .before .before .args in
     c .refused2 .ensures
     ∙ sym
     (apply-refused (x .self) (C.Start (x .board) (x .rule) (x .claim) (x .edges)) 3 refl
     (rw (
-      sym (c .before .before .before .before .start-within .ensures) ∙ not-false _ (c .before .before .before .if1 .left),
-      sym (c .before .before .counts-as-started .ensures) ∙ c .before .if2 .taken,
+      sym (c .before .before .before .start-within .ensures) ∙ not-false _ (c .before .before .if1 .left),
+      sym (c .before .before .before .before .pre) ∙ c .before .if2 .taken,
     )))
 
 begun-with-requires : tie.Need-begun-with-requires
@@ -50,13 +47,13 @@ begun-with-requires c κs = search needs
 returns-3 : tie.Need-returns-3
 unfolding refusal first causes ownCauses keeperCauses stateOf accepted
 returns-3 c =
-    let x = c .before .before .before .before .before .args in
+    let x = c .before .before .before .before .args in
     rw (c .begun-with .ensures)
     (sym
     (apply-accepted (x .self) (C.Start (x .board) (x .rule) (x .claim) (x .edges))
     (rw (
-      sym (c .before .before .before .before .start-within .ensures) ∙ not-false _ (c .before .before .before .if1 .left),
-      sym (c .before .before .counts-as-started .ensures) ∙ c .before .if2 .left,
+      sym (c .before .before .before .start-within .ensures) ∙ not-false _ (c .before .before .if1 .left),
+      sym (c .before .before .before .before .pre) ∙ c .before .if2 .left,
     ))))
 
 pub start-spec : {M : Type 1} → statement M
@@ -66,7 +63,6 @@ start-spec =
     start-within-requires
     refused-requires
     returns
-    counts-as-started-requires
     refused-requires-2
     returns-2
     begun-with-requires

@@ -11,26 +11,23 @@ use Rattle.keeper.proofs.CallLaws.{apply-refused, apply-accepted}
 use Rattle.keeper.proofs.Keeper.waiting.Statement.{statement}
 use Rattle.keeper.proofs.Keeper.waiting.Tie as tie
 
-counts-as-started-requires : tie.Need-counts-as-started-requires
-counts-as-started-requires c κs = search needs
-
 refused-requires : tie.Need-refused-requires
 refused-requires c κs = search needs
 
 returns : tie.Need-returns
 unfolding refusal first causes ownCauses keeperCauses stateOf
 returns c =
-    let x = c .before .before .before .args in
+    let x = c .before .before .args in
     c .refused .ensures
     ∙ sym
     (apply-refused (x .self) (C.Waiting) 3 refl
-    (rw (sym (c .before .before .counts-as-started .ensures) ∙ not-true _ (c .before .if1 .taken))))
+    (rw (sym (c .before .before .pre) ∙ not-true _ (c .before .if1 .taken))))
 
 returns-2 : tie.Need-returns-2
 unfolding refusal first causes ownCauses keeperCauses stateOf accepted
 returns-2 c =
-    let x = c .before .before .args in
-    sym (apply-accepted (x .self) C.Waiting (rw (sym (c .before .counts-as-started .ensures) ∙ not-false _ (c .if1 .left))))
+    let x = c .before .args in
+    sym (apply-accepted (x .self) C.Waiting (rw (sym (c .before .pre) ∙ not-false _ (c .if1 .left))))
 
 pub waiting-spec : {M : Type 1} → statement M
-waiting-spec = tie.close (tie.spec counts-as-started-requires refused-requires returns returns-2)
+waiting-spec = tie.close (tie.spec refused-requires returns returns-2)

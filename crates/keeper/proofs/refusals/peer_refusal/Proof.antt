@@ -7,18 +7,15 @@ use Rattle.keeper.specs.State.{stateOf}
 use Rattle.keeper.proofs.refusals.peer_refusal.Statement.{statement}
 use Rattle.keeper.proofs.refusals.peer_refusal.Tie as tie
 
-counts-as-started-requires : tie.Need-counts-as-started-requires
-counts-as-started-requires c κs = search needs
-
 returns : tie.Need-returns
 unfolding first stateOf
-returns c = rw (sym (c .before .counts-as-started .ensures) ∙ not-true _ (c .if1 .taken))
+returns c = rw (sym (c .before .pre) ∙ not-true _ (c .if1 .taken))
 
 returns-2 : tie.Need-returns-2
 unfolding first stateOf
 returns-2 c =
     rw (
-      sym (c .before .before .before .counts-as-started .ensures) ∙ not-false _ (c .before .before .if1 .left),
+      sym (c .before .before .before .pre) ∙ not-false _ (c .before .before .if1 .left),
       eq-eqb _ _ (c .if2 .taken),
     )
 
@@ -26,9 +23,9 @@ returns-3 : tie.Need-returns-3
 unfolding first stateOf
 returns-3 c =
     rw (
-      sym (c .before .before .before .counts-as-started .ensures) ∙ not-false _ (c .before .before .if1 .left),
+      sym (c .before .before .before .pre) ∙ not-false _ (c .before .before .if1 .left),
       ne-eqb _ _ (c .if2 .left),
     )
 
 pub peer-refusal-spec : {M : Type 1} → statement M
-peer-refusal-spec = tie.close (tie.spec counts-as-started-requires returns returns-2 returns-3)
+peer-refusal-spec = tie.close (tie.spec returns returns-2 returns-3)

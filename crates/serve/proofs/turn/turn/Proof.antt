@@ -32,16 +32,17 @@ same-length-2 c = search needs
 returns : tie.Need-returns
 returns c =
     let l = c .before .before .before .before .answer-lines in
-    let a = c .before .before .before .before .before .before .before .before .before .before .before .args in
+    let start = c .before .before .before .before .before .before .before .before .before .before .before in
+    let a = start .args in
     let inside = place-within (take (a .s .end + a .got) (a .buffer .now)) (l .result .from) (l .ensures .more (c .if1 .taken) .0) in
     record {
-      turn = turned-full (l .ensures) (c .if1 .taken) (omega arith);
+      turn = turned-full (l .ensures) (c .if1 .taken) (omega (arith, start .pre .2));
       beyond = beyond-kept (l .ensures .answered);
       filled = filled-most (l .ensures .answered);
       in-order =
           record {
             order = omega (arith, inside, length-take (a .s .end + a .got) (a .buffer .now));
-            within = omega arith;
+            within = omega (arith, start .pre .1);
             front = λ f. absurd (let z : _≡_ {A = ℕ} 0 1 = cc in omega arith);
           };
     }
