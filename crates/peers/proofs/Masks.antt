@@ -1,6 +1,6 @@
 -- A loop over the peers of a mask, which takes the lowest bit that is set off what is left of the mask until nothing is left.
-use mathlib.Core.Path.{_≡_, refl, sym, ap, _∙_, subst}
-use mathlib.Core.Bool.{Bool, true, false}
+use mathlib.Core.Path.{_≡_, sym, ap, _∙_, subst}
+use mathlib.Core.Bool.{true, false}
 use Prim.Native.Nat.{ℕ, _-_, _^_, _<_}
 use native.Mathlib.Omega.{arith}
 use borrow.Author.Tests.{eqb-true, eqb-false}
@@ -9,9 +9,10 @@ use lib.Count.{trailingZeros}
 use lib.Dec.{eqb}
 use Rattle.bits.specs.Bits.{bitOf}
 use Rattle.bits.specs.Below.{updated}
-use Rattle.bits.proofs.Tests.{clash}
-use Rattle.bits.proofs.BitLaws.{bit-beyond, bit-cleared, lowest-set, lowest-cleared}
+use Rattle.bits.proofs.Tests.{clash, by-test}
+use Rattle.bits.proofs.BitLaws.{bit-cleared, lowest-set, lowest-cleared}
 use Rattle.bits.proofs.Below.{updated-same, updated-other}
+use Rattle.peers.proofs.Marks.{bit-none}
 
 -- the next peer of what is left, and what is left after it
 abbrev pub next : ℕ → ℕ
@@ -30,7 +31,7 @@ pub passed-none : {mask : ℕ} {P : ℕ → Type 0} → mask < 2 ^ 16 → Passed
 passed-none l = record { fits = l; among = λ q e. e; done = λ q e f. absurd (clash e f) }
 
 pub passed-all : {mask : ℕ} {P : ℕ → Type 0} → Passed mask 0 P → (q : ℕ) → bitOf mask q ≡ true → P q
-passed-all s q e = s .done q e (bit-beyond 0 0 q (omega arith) (omega arith))
+passed-all s q e = s .done q e (bit-none q)
 
 module _ {mask rest : ℕ} {P : ℕ → Type 0} (s : Passed mask rest P) (some : 0 < rest) where
   pub next-within : next rest < 16
@@ -57,9 +58,11 @@ module _ {mask rest : ℕ} {P : ℕ → Type 0} (s : Passed mask rest P) (some :
       let other : q ≡ next rest → ⊥ = (λ same. clash e (ap (bitOf (after rest)) same ∙ here)) in
       (other, s .among q (sym (after-other q other) ∙ e))
 
-  pub passed-more : P (next rest) → Passed mask (after rest) P
-  passed-more h = record { fits = after-fits; among = λ q e. after-left q e .1; done = λ q e f. go q e f (eqb q (next rest)) refl }
-    where
-      go : (q : ℕ) → bitOf mask q ≡ true → bitOf (after rest) q ≡ false → (t : Bool) → eqb q (next rest) ≡ t → P q
-      go q e f true d = subst P (sym (eqb-true q (next rest) d)) h
-      go q e f false d = s .done q e (sym (after-other q (eqb-false q (next rest) d)) ∙ f)
+  -- a peer that is not left afterwards is the next one, or was not left before
+  pub not-left : {A : Type 0} (q : ℕ) → bitOf (after rest) q ≡ false → (q ≡ next rest → A) → (bitOf rest q ≡ false → A) → A
+  not-left q f here before =
+      by-test (eqb q (next rest)) (λ d. here (eqb-true q (next rest) d)) (λ d. before (sym (after-other q (eqb-false q (next rest) d)) ∙ f))
+
+  pub passed-more : {R : ℕ → Type 0} → ((q : ℕ) → P q → R q) → R (next rest) → Passed mask (after rest) R
+  passed-more {R} still h =
+      record { fits = after-fits; among = λ q e. after-left q e .1; done = λ q e f. not-left q f (λ same. subst R (sym same) h) (λ g. still q (s .done q e g)) }

@@ -1,22 +1,22 @@
--- The tests of the peers that the code makes: of those that wait, of the others, and of their tags.
+-- The tests of the peers that the code makes: of those that do not wait, of one tag among all, and of two tags; and the definition in parts.
 use mathlib.Core.Path.{_≡_, refl, sym, _∙_}
 use mathlib.Core.Bool.{Bool, true, false, not, _&&_, _||_, and-false, and-true, and-assoc}
 use mathlib.Core.List.{List}
-use Prim.Native.Nat.{ℕ, zero, suc, _+_, _^_, _<_, _≤_}
+use Prim.Native.Nat.{ℕ, zero, suc, _+_, _<_, _≤_}
 use native.Mathlib.Nat.{le-trans, add-zero}
+use native.Mathlib.Numerals.{add-one}
 use native.Mathlib.Omega.{arith}
-use borrow.Author.Tests.{leb-true, ltb-true, ltb-false, eqb-true, eqb-false, eq-eqb, ne-eqb, not-true, not-false}
+use borrow.Author.Tests.{eqb-true, eqb-false, eq-eqb, ne-eqb, not-true}
 use lib.Bits.{bitOr, or-add-and, and-le-l, and-le-r}
-use lib.Dec.{ltb, eqb}
+use lib.Dec.{eqb}
 use lib.ListN.{getD}
-use Rattle.bits.proofs.Tests.{by-test, both, join, neither}
+use Rattle.bits.proofs.Tests.{by-test}
 use Rattle.peers.specs.Peers.{waiterKept, idleKept, tagsDiffer, peersKept}
-use Rattle.peers.specs.Parts.{idleOrWaits, othersIdle, hasTag, tagAlone, keptOrRests, waitersKept}
+use Rattle.peers.specs.Parts.{idleOrWaits, othersIdle, eachWaiting, waitersKept}
 use Rattle.bits.specs.Bits.{bitOf}
-use Rattle.peers.proofs.Masks.{Passed, next, next-within, next-among}
 use Rattle.bits.specs.Below.{allBelow, countBelow}
-use Rattle.bits.proofs.BitLaws.{bit-within}
-use Rattle.bits.proofs.Below.{all-at, all-made, all-broken, all-found}
+use Rattle.bits.proofs.Below.{all-broken}
+use Rattle.peers.proofs.Marks.{bit-none}
 
 -- both numbers are 0 where none of their bits is set
 pub bits-idle : (tag sent : ℕ) → eqb (bitOr tag sent) 0 ≡ idleKept tag sent
@@ -38,9 +38,23 @@ bits-idle tag sent = go (eqb (bitOr tag sent) 0) refl
         rw (no-tag, no-sent)
     go false e = not-both e (eqb tag 0) (eqb sent 0) refl refl
 
+-- the bits of every peer so far, joined with those of one more, where none waits
+pub idle-more : (n some-tag some-sent : ℕ) (tags sent : List ℕ) → idleKept some-tag some-sent ≡ allBelow n (idleOrWaits 0 tags sent)
+    → idleKept (bitOr some-tag (getD tags n 0)) (bitOr some-sent (getD sent n 0)) ≡ allBelow (n + 1) (idleOrWaits 0 tags sent)
+unfolding allBelow
+idle-more n some-tag some-sent tags sent h =
+    rw (bits-idle some-tag (getD tags n 0), bits-idle some-sent (getD sent n 0), add-one n, ← h, bit-none n)
+    (regroup (eqb some-tag 0) (eqb (getD tags n 0) 0) (eqb some-sent 0) (eqb (getD sent n 0) 0))
+  where
+    regroup : (a b c d : Bool) → ((a && b) && (c && d)) ≡ ((a && c) && (b && d))
+    regroup false b c d = refl
+    regroup true true c d = refl
+    regroup true false true d = refl
+    regroup true false false d = refl
+
 -- ---- a test that holds of one number alone
 
-abbrev otherwise : (ℕ → Bool) → ℕ → ℕ → Bool
+abbrev pub otherwise : (ℕ → Bool) → ℕ → ℕ → Bool
 otherwise test p q = eqb q p || not (test q)
 
 -- of none below n, if none is counted
@@ -95,72 +109,9 @@ module _ (mask : ℕ) (tags : List ℕ) where
         go false t d e = refl
 
     -- two that have one tag
-    apart-broken : p < 16 → q < p → bitOf mask p ≡ true → bitOf mask q ≡ true → getD tags p 0 ≡ getD tags q 0 → allBelow 16 (λ n. allBelow n (tagsDiffer mask tags n)) ≡ false
+    pub apart-broken : p < 16 → q < p → bitOf mask p ≡ true → bitOf mask q ≡ true → getD tags p 0 ≡ getD tags q 0 → allBelow 16 (λ n. allBelow n (tagsDiffer mask tags n)) ≡ false
     apart-broken l m hp hq same =
         all-broken 16 (λ n. allBelow n (tagsDiffer mask tags n)) p l (all-broken p (tagsDiffer mask tags p) q m (rw (hp, hq, eq-eqb (getD tags p 0) (getD tags q 0) same)))
-
--- ---- the waiting peers
-
--- a waiting peer is in order, and no other one has its tag
-pub record Waiter (waiting requests ticks : ℕ) (tags sent : List ℕ) (q : ℕ) : Type 0 where
-  pub kept : waiterKept requests ticks (getD tags q 0) (getD sent q 0) ≡ true
-  pub alone : (r : ℕ) → bitOf waiting r ≡ true → (r ≡ q → ⊥) → getD tags r 0 ≡ getD tags q 0 → ⊥
-
-module _ (waiting requests ticks : ℕ) (tags sent : List ℕ) where
-  pub waiters-made : ((q : ℕ) → bitOf waiting q ≡ true → Waiter waiting requests ticks tags sent q) → waitersKept waiting requests ticks tags sent ≡ true
-  unfolding waitersKept
-  waiters-made h =
-      join (all-made 16 (keptOrRests waiting requests ticks tags sent) (λ p l. go p (bitOf waiting p) refl))
-      (all-made 16 (λ p. allBelow p (tagsDiffer waiting tags p)) (λ p l. all-made p (tagsDiffer waiting tags p) (λ q m. apart-made waiting tags p q (λ hp hq same. h q hq .alone p hp (λ z. omega arith) same))))
-    where
-      go : (p : ℕ) (t : Bool) → bitOf waiting p ≡ t → keptOrRests waiting requests ticks tags sent p ≡ true
-      go p true e = rw (e, h p e .kept)
-      go p false e = rw e
-
-  -- a waiting peer that is not in order
-  pub waiter-broken : (p : ℕ) → p < 16 → bitOf waiting p ≡ true → waiterKept requests ticks (getD tags p 0) (getD sent p 0) ≡ false → waitersKept waiting requests ticks tags sent ≡ false
-  unfolding waitersKept
-  waiter-broken p l e f = rw (all-broken 16 (keptOrRests waiting requests ticks tags sent) p l (rw (e, f)))
-
-  -- two waiting peers that have one tag
-  tags-broken : (p q : ℕ) → p < 16 → q < 16 → (q ≡ p → ⊥) → bitOf waiting p ≡ true → bitOf waiting q ≡ true → getD tags p 0 ≡ getD tags q 0 → waitersKept waiting requests ticks tags sent ≡ false
-  unfolding waitersKept
-  tags-broken p q lp lq other hp hq same = go (ltb q p) refl
-    where
-      go : (t : Bool) → ltb q p ≡ t → waitersKept waiting requests ticks tags sent ≡ false
-      go true d = rw (apart-broken waiting tags p q lp (ltb-true q p d) hp hq same) (and-false (allBelow 16 (keptOrRests waiting requests ticks tags sent)))
-      go false d = rw (apart-broken waiting tags q p lq (omega (arith, ltb-false q p d, other)) hq hp (sym same)) (and-false (allBelow 16 (keptOrRests waiting requests ticks tags sent)))
-
-  -- the next peer: its tag is looked for in the sixteen places, of which those of the others hold 0
-  module _ {rest : ℕ} (s : Passed waiting rest (Waiter waiting requests ticks tags sent)) (some : 0 < rest) where
-    place : (t : Bool) → tagAlone (getD tags (next rest) 0) tags ≡ t → allBelow 16 (otherwise (hasTag (getD tags (next rest) 0) tags) (next rest)) ≡ t
-    unfolding tagAlone
-    place t e = sym (counted-once 16 (next rest) (hasTag (getD tags (next rest) 0) tags) (next-within s some) (eq-eqb (getD tags (next rest) 0) (getD tags (next rest) 0) refl)) ∙ e
-
-    pub waiter-next : waiting < 2 ^ 16 → waiterKept requests ticks (getD tags (next rest) 0) (getD sent (next rest) 0) ≡ true
-        → tagAlone (getD tags (next rest) 0) tags ≡ true → Waiter waiting requests ticks tags sent (next rest)
-    waiter-next fits kept alone =
-        record {
-          kept = kept;
-          alone =
-              λ r e other same.
-              let here = all-at 16 (otherwise (hasTag (getD tags (next rest) 0) tags) (next rest)) (place true alone) r (bit-within 16 waiting r fits e) in
-              eqb-false _ _ (not-true _ (rw (ne-eqb r (next rest) other) at here)) same;
-        }
-
-    pub waiter-clash : othersIdle waiting tags sent ≡ true → waiterKept requests ticks (getD tags (next rest) 0) (getD sent (next rest) 0) ≡ true
-        → tagAlone (getD tags (next rest) 0) tags ≡ false → waitersKept waiting requests ticks tags sent ≡ false
-    unfolding othersIdle
-    waiter-clash idle kept taken =
-        let (q, l, f) = all-found 16 (otherwise (hasTag (getD tags (next rest) 0) tags) (next rest)) (place false taken) in
-        let (there, has) = neither _ _ f in
-        let same : getD tags q 0 ≡ getD tags (next rest) 0 = eqb-true _ _ (not-false _ has) in
-        let least : 1 ≤ getD tags (next rest) 0 = leb-true _ _ (both _ _ (both _ _ kept .0) .0) in
-        by-test (bitOf waiting q)
-        (λ t. tags-broken (next rest) q (next-within s some) l (eqb-false _ _ there) (next-among s some) t (sym same))
-        (λ t.
-        let none : getD tags q 0 ≡ 0 = eqb-true _ _ (both _ _ (rw t at (all-at 16 (idleOrWaits waiting tags sent) idle q l)) .0) in
-        absurd (omega (arith, none, same, least)))
 
 -- ---- the definition, in the two parts that the code tests: the peers that do not wait, and those that do
 
@@ -185,4 +136,4 @@ pub peers-in-parts : (waiting requests ticks : ℕ) (tags sent : List ℕ)
 unfolding peersKept othersIdle waitersKept
 peers-in-parts waiting requests ticks tags sent =
     rw (by-cases 16 (bitOf waiting) (λ p. waiterKept requests ticks (getD tags p 0) (getD sent p 0)) (λ p. idleKept (getD tags p 0) (getD sent p 0)))
-    (and-assoc (othersIdle waiting tags sent) (allBelow 16 (keptOrRests waiting requests ticks tags sent)) _)
+    (and-assoc (othersIdle waiting tags sent) (eachWaiting waiting (λ p. waiterKept requests ticks (getD tags p 0) (getD sent p 0))) _)

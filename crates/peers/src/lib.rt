@@ -2,10 +2,11 @@
 use bits::bit_of;
 ghost use mathlib.Core.Path.{_≡_};
 ghost use mathlib.Core.Bool.{true};
-ghost use Prim.Native.Nat.{_≤_};
-ghost use Rattle.bits.specs.Below.{one};
+ghost use Prim.Native.Nat.{ℕ, _<_, _≤_};
+ghost use Rattle.bits.specs.Bits.{bitOf};
+ghost use Rattle.bits.specs.Below.{one, updated};
 ghost use Rattle.peers.specs.Peers.{waiterKept, idleKept, peersKept};
-ghost use Rattle.peers.specs.Parts.{othersIdle, tagAlone, waitersKept};
+ghost use Rattle.peers.specs.Parts.{othersIdle, tagAlone, tagsAlone, waitersKept};
 
 pub const PEERS: u8 = 16;
 
@@ -29,10 +30,28 @@ fn idle_kept(tag: u32, sent: u64) -> bool
     (tag as u64) | sent == 0
 }
 
-// Each peer with none waiting holds 0 for both.
+// Every peer holds 0 for both. No peer ends the loop, so that the compiler takes several places at once.
+fn all_idle<'a>(tags: &'a [u32; 16], sent_at: &'a [u64; 16]) -> bool
+    ensures { λ r. ⌜ r ≡ othersIdle 0 (now (tags .entry)) (now («sent_at» .entry)) ⌝ }
+{
+    let mut some_tag: u32 = 0;
+    let mut some_sent: u64 = 0;
+    let mut p: usize = 0;
+    while p < 16 {
+        some_tag = some_tag | tags[p];
+        some_sent = some_sent | sent_at[p];
+        p += 1;
+    }
+    idle_kept(some_tag, some_sent)
+}
+
+// Each peer with none waiting holds 0 for both. A keeper in which no peer waits is tested without its mask.
 fn others_idle<'a>(waiting: u16, tags: &'a [u32; 16], sent_at: &'a [u64; 16]) -> bool
     ensures { λ r. ⌜ r ≡ othersIdle waiting (now (tags .entry)) (now («sent_at» .entry)) ⌝ }
 {
+    if waiting == 0 {
+        return all_idle(tags, sent_at);
+    }
     let mut p: u8 = 0;
     while p < PEERS {
         if !bit_of(waiting, p) {
@@ -64,7 +83,39 @@ fn tag_alone(tag: u32, tags: &[u32; 16]) -> bool
     times == 1
 }
 
-// Each waiting peer is in order, and no other place has its tag: the places of the others hold 0, which is no tag.
+// Each waiting peer's tag is in one place only.
+fn tags_alone(waiting: u16, tags: &[u32; 16]) -> bool
+    ensures { λ r. ⌜ r ≡ tagsAlone waiting (now (tags .entry)) ⌝ }
+{
+    let mut rest = waiting;
+    while rest != 0 {
+        let p = u16::trailing_zeros(rest) as usize;
+        rest = rest & (rest - 1);
+        if !tag_alone(tags[p], tags) {
+            return false;
+        }
+    }
+    true
+}
+
+// Whether a number below 64 is marked, by its bit.
+fn marked(seen: u64, place: u32) -> bool
+    requires { ⌜ place < 64 ⌝ }
+    ensures { λ r. ⌜ r ≡ bitOf seen place ⌝ }
+{
+    (seen >> place) % 2 == 1
+}
+
+// The mask with one more number marked.
+fn mark(seen: u64, place: u32) -> u64
+    requires { ⌜ place < 64 ⌝ }
+    ensures { λ r. ⌜ ((q : ℕ) → bitOf r q ≡ updated (bitOf seen) place true q) ⌝ }
+{
+    seen | (1u64 << place)
+}
+
+// Each waiting peer is in order, and no two have one tag. Tags whose remainders by 64 differ are different, so each remainder is marked, and only
+// where two tags share one is each tag looked for in all places: those of the others hold 0, which is no tag.
 fn waiters_kept<'a>(
     waiting: u16,
     requests: u32,
@@ -75,6 +126,8 @@ fn waiters_kept<'a>(
     requires { ⌜ othersIdle waiting (now tags) (now «sent_at») ≡ true ⌝ }
     ensures { λ r. ⌜ r ≡ waitersKept waiting requests ticks (now (tags .entry)) (now («sent_at» .entry)) ⌝ }
 {
+    let mut seen: u64 = 0;
+    let mut shared = false;
     let mut rest = waiting;
     while rest != 0 {
         let p = u16::trailing_zeros(rest) as usize;
@@ -83,9 +136,12 @@ fn waiters_kept<'a>(
         if !waiter_kept(requests, ticks, tag, sent_at[p]) {
             return false;
         }
-        if !tag_alone(tag, tags) {
-            return false;
-        }
+        let place = tag % 64;
+        shared = shared | marked(seen, place);
+        seen = mark(seen, place);
+    }
+    if shared {
+        return tags_alone(waiting, tags);
     }
     true
 }

@@ -1,4 +1,4 @@
--- `peers::others_idle` meets its contract: every peer before the place passed.
+-- `peers::others_idle` meets its contract: where none waits every peer, else every peer before the place, passed.
 use borrow.Author.Needs.{needs}
 use denote.Ref.{now}
 use borrow.Author.Tests.{not-true, not-false}
@@ -18,6 +18,12 @@ Inv-loop waiting tags sent-at p₀ p = (p ≤ 16) × (allBelow p (idleOrWaits wa
 
 abbrev μ-loop : tie.MeasureT-loop
 μ-loop waiting tags sent-at p₀ p = 16 - p
+
+all-idle-requires : tie.Need-all-idle-requires Inv-loop μ-loop
+all-idle-requires c κs = search needs
+
+returns : tie.Need-returns Inv-loop μ-loop
+returns c = rw (c .before .if1 .taken) (c .all-idle .ensures)
 
 loop-holds : tie.Need-loop-holds Inv-loop μ-loop
 unfolding allBelow
@@ -47,15 +53,15 @@ element-copy-out-idle-kept-2 c = omega arith
 idle-kept-requires : tie.Need-idle-kept-requires Inv-loop μ-loop
 idle-kept-requires c κs = search needs
 
-returns : tie.Need-returns Inv-loop μ-loop
+returns-2 : tie.Need-returns-2 Inv-loop μ-loop
 unfolding othersIdle
-returns c =
-    let x = c .before .before .before .before .before .before .before .before .args in
+returns-2 c =
+    let x = c .before .before .before .before .before .before .before .before .before .args in
     let p = c .before .before .before .before .before .before .before .loop .p in
     sym (all-broken 16 (idleOrWaits (x .waiting) (now (x .tags)) (now (x .sent-at))) p (c .before .before .before .before .before .before .loop-test .taken)
     (rw (
-      sym (c .before .before .before .before .before .bit-of .ensures) ∙ not-true _ (c .before .before .before .before .if1 .taken),
-      sym (c .before .idle-kept .ensures) ∙ not-true _ (c .if2 .taken),
+      sym (c .before .before .before .before .before .bit-of .ensures) ∙ not-true _ (c .before .before .before .before .if2 .taken),
+      sym (c .before .idle-kept .ensures) ∙ not-true _ (c .if3 .taken),
     )))
 
 add-p : tie.Need-add-p Inv-loop μ-loop
@@ -73,12 +79,12 @@ loop-again c =
           (⊎-elim
           (λ w. rw (sym waits ∙ not-true _ (w .0 .taken), sym (w .3 .ensures) ∙ not-false _ (w .4 .left)))
           (λ w. rw (sym waits ∙ not-false _ (w .left)))
-          (c .if1 .came)),
+          (c .if2 .came)),
     )
 
-returns-2 : tie.Need-returns-2 Inv-loop μ-loop
+returns-3 : tie.Need-returns-3 Inv-loop μ-loop
 unfolding othersIdle
-returns-2 c =
+returns-3 c =
     let all : c .before .loop .p ≡ 16 = omega arith in
     sym (rw all at (c .before .loop .inv .1))
 
@@ -88,6 +94,8 @@ others-idle-spec =
     (tie.spec
     Inv-loop
     μ-loop
+    all-idle-requires
+    returns
     loop-holds
     bit-of-requires
     cast-idle-kept
@@ -97,8 +105,8 @@ others-idle-spec =
     mul-idle-kept-2
     element-copy-out-idle-kept-2
     idle-kept-requires
-    returns
+    returns-2
     add-p
     loop-less
     loop-again
-    returns-2)
+    returns-3)
