@@ -1,4 +1,4 @@
-//! What `bench/run` needs besides the two programs: inputs, calls without a
+//! What `bench/run` needs besides the programs: inputs, calls without a
 //! program around them, and the measuring of time.
 
 #![forbid(unsafe_code)]

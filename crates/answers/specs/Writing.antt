@@ -15,16 +15,20 @@ use Rattle.keeper.specs.declared.Answer.the-variants as A
 use Rattle.keeper.specs.declared.Keeper.{Keeper}
 use Rattle.answers.specs.Answers.{leastOutput, IsLine}
 
--- The bytes are put where there is room, and are few enough that an LF has room after them in the least output.
+-- 'each line written ends in LF' (byte 10)
+abbrev pub lineEnd : List ℕ
+lineEnd = 10 ∷ []
+
+-- The bytes and an LF behind them are put where there is room, and are together no longer than the least output.
 pub record PutShort (before : List ℕ) (at : ℕ) (s after : List ℕ) (next : ℕ) : Type 0 where
-  pub puts : Puts before at s after next
+  pub puts : Puts before at (s ++ lineEnd) after next
   pub short : length s < leastOutput
 
--- The line of the answer is put where there is room. It is short, if what it lists is from a keeper that counts as started.
+-- The line of the answer and an LF behind it are put where there is room. It is short, if what it lists is from a keeper that counts as started.
 pub record LinePut (a : Answer) (k : Keeper) (before : List ℕ) (at : ℕ) (after : List ℕ) (next : ℕ) : Type 0 where
   pub bytes : List ℕ
   pub line : IsLine a k bytes
-  pub puts : Puts before at bytes after next
+  pub puts : Puts before at (bytes ++ lineEnd) after next
   pub short : (a ≡ A.Waiting → countsAsStarted k ≡ true) → length bytes < leastOutput
 
 -- ' (PEER TAG)'

@@ -1,3 +1,4 @@
 -- Laws about the definitions of specs/.
 pub mod ImageLaws
+pub mod ApplyLaws
 pub mod Replayed

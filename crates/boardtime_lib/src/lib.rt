@@ -1,12 +1,21 @@
 // The keeper for firmware in C and Rust: functions on numbers and lent bytes. The keeper crosses as an image (crate `image`), which a board
 // may keep over a reset. What a caller owes is in include/boardtime.h: valid buffers that do not overlap and that nothing else uses meanwhile.
+use crate::apply::answer_command;
+use crate::apply::returned;
+use changes::store_passed;
+use command::Reading;
 use command::limits::ticks_within;
 use image::is_image;
 use image::load::load;
 use image::store::store;
 use keeper::Keeper;
 use lent::pass;
-use line::call;
+use line::LEAST_OUTPUT;
+use line::write_refusal;
+use reader::read_command;
+
+mod apply;
+
 ghost use mathlib.Core.Path.{_≡_};
 ghost use Rattle.boardtime_lib.specs.Images.{FreshImage, LineImage, PassImage};
 
@@ -15,6 +24,9 @@ pub const WRONG_LENGTH: u8 = 255;
 
 // Document 01's number for a number outside its limits.
 const OUTSIDE_LIMITS: u8 = 2;
+
+// Document 01's number for an output that is too short.
+const NO_ROOM: u8 = 10;
 
 // Stores the image of a fresh keeper.
 #[no_mangle]
@@ -29,7 +41,7 @@ pub extern "C" fn boardtime_fresh(image: &mut [u8]) -> u8
 }
 
 // Answers a line. The number is the result's lowest byte, and the length written the bytes above it. A refused call leaves the image as
-// it was, to the byte, also one that can't be read.
+// it was, to the byte, also one that can't be read. The line is read first: one that is no command is answered without a look at the image.
 #[no_mangle]
 pub extern "C" fn boardtime_line(image: &mut [u8], line: &[u8], out: &mut [u8]) -> u32
     ensures { λ r. ⌜ LineImage (now (image .entry)) (now (line .entry)) (now (out .entry)) r (now (image .exit)) (now (out .exit)) ⌝ }
@@ -37,15 +49,15 @@ pub extern "C" fn boardtime_line(image: &mut [u8], line: &[u8], out: &mut [u8]) 
     if !is_image(image) {
         return WRONG_LENGTH as u32;
     }
-    let response = call(load(image), line, out);
-    let number = response.number;
-    let next = response.keeper;
-    let answered = (number as u32) + 256 * (response.length as u32);
-    if number != 0 {
-        return answered;
+    if out.len() < LEAST_OUTPUT {
+        return NO_ROOM as u32;
     }
-    store(image, next);
-    answered
+    let reading = read_command(line);
+    match reading {
+        Reading::Accepted(command) => answer_command(image, command, out),
+        Reading::NoShape => returned(1, write_refusal(out, 1)),
+        Reading::OutsideLimits => returned(2, write_refusal(out, 2)),
+    }
 }
 
 // Moves the keeper on by a number of ticks, as the line '(pass TICKS)' does, and writes no line. The number has 64 bits, so that a caller's
@@ -66,6 +78,7 @@ pub extern "C" fn boardtime_pass(image: &mut [u8], ticks: u64) -> u8
     if refusal != 0 {
         return refusal;
     }
-    store(image, next);
+    let edges = next.edges;
+    store_passed(image, edges, next.ticks);
     0
 }

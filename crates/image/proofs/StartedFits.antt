@@ -14,7 +14,8 @@ use Rattle.image.specs.Layout.{imageOf, keeperIn, AllBelow, Fitting}
 use Rattle.image.proofs.RoundTrip.{image-read-back}
 use Rattle.bits.specs.Bits.{bitOf}
 
-all-below : (bound : ℕ) (ns : List ℕ) → ((p : ℕ) → p < length ns → getD ns p 0 < bound) → AllBelow bound ns
+-- A bound on the number at each place is a bound on all. (Of the bytes of a lent buffer, a proof has the first at hand.)
+pub all-below : (bound : ℕ) (ns : List ℕ) → ((p : ℕ) → p < length ns → getD ns p 0 < bound) → AllBelow bound ns
 all-below bound [] h = tt
 all-below bound (n ∷ ns) h = (h 0 (omega arith), all-below bound ns (λ p l. h (suc p) (omega arith)))
 

@@ -1,4 +1,4 @@
-// Numbers as bytes, lowest byte first.
+// Numbers as bytes, lowest byte first. The stores are public for the crate `changes`, which tests the buffer's length before it calls them.
 ghost use mathlib.Core.Path.{_≡_};
 ghost use Prim.Native.Nat.{_+_, _<_, _≤_};
 ghost use lib.ListN.{length};
@@ -37,7 +37,7 @@ pub(crate) fn load_8(image: &[u8], at: usize) -> u64
 }
 
 // Puts a number's 2 bytes at a place.
-pub(crate) fn store_2(image: &mut [u8], at: usize, n: u16)
+pub fn store_2(image: &mut [u8], at: usize, n: u16)
     requires { ⌜ at + 2 ≤ length (now image) ⌝ }
     ensures { λ _. ⌜ now (image .exit) ≡ stored (now (image .entry)) at (lowestFirst 2 n) ⌝ }
 {
@@ -46,7 +46,7 @@ pub(crate) fn store_2(image: &mut [u8], at: usize, n: u16)
 }
 
 // Puts a number's 4 bytes at a place.
-pub(crate) fn store_4(image: &mut [u8], at: usize, n: u32)
+pub fn store_4(image: &mut [u8], at: usize, n: u32)
     requires { ⌜ at + 4 ≤ length (now image) ⌝ }
     ensures { λ _. ⌜ now (image .exit) ≡ stored (now (image .entry)) at (lowestFirst 4 n) ⌝ }
 {
@@ -55,7 +55,7 @@ pub(crate) fn store_4(image: &mut [u8], at: usize, n: u32)
 }
 
 // Puts a number's 8 bytes at a place.
-pub(crate) fn store_8(image: &mut [u8], at: usize, n: u64)
+pub fn store_8(image: &mut [u8], at: usize, n: u64)
     requires { ⌜ at + 8 ≤ length (now image) ⌝ }
     ensures { λ _. ⌜ now (image .exit) ≡ stored (now (image .entry)) at (lowestFirst 8 n) ⌝ }
 {

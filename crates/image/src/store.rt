@@ -79,8 +79,8 @@ fn store_head(image: &mut [u8], keeper: Keeper)
     store_2(image, 6, keeper.waiting);
 }
 
-// Places 8 to 23.
-fn store_edges(image: &mut [u8], edges: Interval)
+// Places 8 to 23. Public for the crate `changes`, as the stores of numbers are.
+pub fn store_edges(image: &mut [u8], edges: Interval)
     requires { ⌜ length (now image) ≡ imageLength ⌝ }
     ensures { λ _. ⌜ now (image .exit) ≡ stored (now (image .entry)) 8 (edgeBytes edges) ⌝ }
 {

@@ -24,7 +24,7 @@ use Rattle.command.specs.declared.Command.the-variants as C
 use Rattle.command.proofs.LimitLaws.{board-bound}
 use Rattle.keeper.specs.State.{stateOf, countsAsStarted, mostTicks}
 use Rattle.keeper.specs.Refusals.{waited, replyBracket, replyVerdict, keeperCauses, causes, refusal}
-use Rattle.keeper.specs.Apply.{outcomeOf, passedTo, asked, ended, replied, accepted, apply, numberOf}
+use Rattle.keeper.specs.Apply.{outcomeOf, changed, passedTo, asked, ended, replied, accepted, apply, numberOf}
 use Rattle.keeper.specs.declared.Keeper.{Keeper}
 use Rattle.keeper.specs.declared.Outcome.{Outcome}
 use Rattle.keeper.specs.declared.Answer.{Answer}
@@ -137,9 +137,9 @@ Changed (A.At ticks edges) k l = Moved k l (passedTo k edges ticks)
 Changed (A.Sent peer tag) k l = (peer ≤ 15) × Moved k l (asked k peer)
 Changed (A.Replied peer v) k l = (peer ≤ 15) × Moved k l (ended k peer (v .edges) (conflictsAfter (k .conflicts) (v .finding)))
 Changed (A.Dropped peer) k l = (peer ≤ 15) × Moved k l (ended k peer (k .edges) (k .conflicts))
-Changed (A.Time edges centre error conflicts waiting) k l = l ≡ k
-Changed A.Waiting k l = l ≡ k
-Changed (A.Refused n) k l = l ≡ k
+Changed (A.Time edges centre error conflicts waiting) k l = Moved k l k
+Changed A.Waiting k l = Moved k l k
+Changed (A.Refused n) k l = (n ≡ 0 → ⊥) × (l ≡ k)
 
 module _ (k : Keeper) where
   command-changes : (c : Command) → refusal (stateOf k) c ≡ 0 → Changed (accepted k c .answer) k (accepted k c .keeper)
@@ -156,8 +156,8 @@ module _ (k : Keeper) where
   command-changes (C.Drop peer) e =
       let c = accepted-none (stateOf k) (C.Drop peer) e in
       (board-bound peer (not-false _ (c .0)), record { started = not-false _ (c .1 .0); next-is = refl })
-  command-changes C.Read e = refl
-  command-changes C.Waiting e = refl
+  command-changes C.Read e = record { started = not-false _ (accepted-none (stateOf k) C.Read e .1 .0); next-is = refl }
+  command-changes C.Waiting e = record { started = not-false _ (accepted-none (stateOf k) C.Waiting e .1 .0); next-is = refl }
 
   abbrev after : Command → Bool → Outcome
   after c t = choose t (λ _. accepted k c) (λ _. outcomeOf (A.Refused (refusal (stateOf k) c)) k)
@@ -168,4 +168,12 @@ module _ (k : Keeper) where
     where
       go : (t : Bool) → eqb (refusal (stateOf k) c) 0 ≡ t → Changed (after c t .answer) k (after c t .keeper)
       go true e = command-changes c (eqb-true _ _ e)
-      go false e = refl
+      go false e = (eqb-false _ _ e, refl)
+
+  -- an accepted pass moves edges and ticks alone
+  pub pass-changes : (n : ℕ) → numberOf (apply k (C.Pass n) .answer) ≡ 0
+      → let l = apply k (C.Pass n) .keeper in Moved k l (passedTo k (l .edges) (l .ticks))
+  unfolding accepted passedTo changed causes ownCauses keeperCauses stateOf
+  pass-changes n e =
+      let none = sym (apply-number k (C.Pass n)) ∙ e in
+      rw (apply-accepted k (C.Pass n) none) (record { started = not-false _ (accepted-none (stateOf k) (C.Pass n) none .1 .0); next-is = refl })

@@ -1,5 +1,6 @@
 // One call with a line: a keeper by value, a line of any bytes, and a lent output of any length.
 use answers::put_answer;
+use answers::put_refusal;
 use command::Reading;
 use keeper::Answer;
 use keeper::Keeper;
@@ -7,13 +8,13 @@ use keeper::Outcome;
 use keeper::calls::apply_command;
 use keeper::number::number_of;
 use reader::read_command;
-use text::output::put_bytes;
 ghost use mathlib.Core.Path.{_≡_};
 ghost use mathlib.Core.Bool.{true};
 ghost use Prim.Native.Nat.{_≤_};
 ghost use lib.ListN.{length};
 ghost use Rattle.keeper.specs.State.{countsAsStarted};
-ghost use Rattle.keeper.specs.declared.Answer.the-variants.{Waiting};
+ghost use Rattle.keeper.specs.declared.Answer.the-variants.{Waiting, Refused};
+ghost use Rattle.keeper.specs.declared.Keeper.{Keeper};
 ghost use Rattle.answers.specs.Answers.{leastOutput};
 ghost use Rattle.line.specs.Call.{answered, Wrote, Called};
 
@@ -53,8 +54,15 @@ pub fn write_answer(out: &mut [u8], answer: Answer, keeper: Keeper) -> usize
     requires { ⌜ (leastOutput ≤ length (now out)) × (answer ≡ Waiting → countsAsStarted keeper ≡ true) ⌝ }
     ensures { λ r. ⌜ Wrote answer keeper (now (out .entry)) (now (out .exit)) r ⌝ }
 {
-    let at = put_answer(out, 0, answer, keeper);
-    put_bytes(out, at, b"\n")
+    put_answer(out, 0, answer, keeper)
+}
+
+// The same for a line that is no command, which is refused whatever the keeper is.
+pub fn write_refusal(out: &mut [u8], n: u8) -> usize
+    requires { ⌜ leastOutput ≤ length (now out) ⌝ }
+    ensures { λ r. ⌜ ((k : Keeper) → Wrote (Refused n) k (now (out .entry)) (now (out .exit)) r) ⌝ }
+{
+    put_refusal(out, 0, n)
 }
 
 // Refusal 10 comes before anything else is looked at, and touches no byte.

@@ -2,7 +2,7 @@
 use mathlib.Core.Path.{refl}
 use borrow.Author.Needs.{needs}
 use Rattle.moment.proofs.Integers.{got}
-use Rattle.answers.specs.Answers.{lineOf, waitingLine}
+use Rattle.answers.specs.Answers.{waitingLine}
 use Rattle.answers.specs.Writing.{waitersBelow}
 use Rattle.answers.proofs.LineLaws.{by-line}
 use Rattle.answers.proofs.WaitersLaws.{each-once, waiting-most}
@@ -12,23 +12,14 @@ use Rattle.answers.proofs.put_answer.Tie as tie
 enum-known-answer : tie.Need-enum-known-answer
 enum-known-answer c = search needs
 
-slice-aggregate-number-line : tie.Need-slice-aggregate-number-line
-slice-aggregate-number-line c = search needs
-
-cast-number-line : tie.Need-cast-number-line
-cast-number-line c = search needs
-
-number-line-requires : tie.Need-number-line-requires
-number-line-requires c κs = search needs
+started-line-requires : tie.Need-started-line-requires
+started-line-requires c κs = search needs
 
 enum-known-answer-2 : tie.Need-enum-known-answer-2
 enum-known-answer-2 c = search needs
 
-slice-aggregate-edges-line : tie.Need-slice-aggregate-edges-line
-slice-aggregate-edges-line c = search needs
-
-edges-line-requires : tie.Need-edges-line-requires
-edges-line-requires c κs = search needs
+at-line-requires : tie.Need-at-line-requires
+at-line-requires c κs = search needs
 
 enum-known-answer-3 : tie.Need-enum-known-answer-3
 enum-known-answer-3 c = search needs
@@ -45,14 +36,8 @@ replied-line-requires c κs = search needs
 enum-known-answer-5 : tie.Need-enum-known-answer-5
 enum-known-answer-5 c = search needs
 
-slice-aggregate-number-line-2 : tie.Need-slice-aggregate-number-line-2
-slice-aggregate-number-line-2 c = search needs
-
-cast-number-line-2 : tie.Need-cast-number-line-2
-cast-number-line-2 c = search needs
-
-number-line-requires-2 : tie.Need-number-line-requires-2
-number-line-requires-2 c κs = search needs
+dropped-line-requires : tie.Need-dropped-line-requires
+dropped-line-requires c κs = search needs
 
 enum-known-answer-6 : tie.Need-enum-known-answer-6
 enum-known-answer-6 c = search needs
@@ -69,28 +54,20 @@ waiting-line-requires c κs = search needs
 enum-known-answer-7 : tie.Need-enum-known-answer-7
 enum-known-answer-7 c = search needs
 
-slice-aggregate-number-line-3 : tie.Need-slice-aggregate-number-line-3
-slice-aggregate-number-line-3 c = search needs
-
-cast-number-line-3 : tie.Need-cast-number-line-3
-cast-number-line-3 c = search needs
-
-number-line-requires-3 : tie.Need-number-line-requires-3
-number-line-requires-3 c κs = search needs
+put-refusal-requires : tie.Need-put-refusal-requires
+put-refusal-requires c κs = search needs
 
 same-length : tie.Need-same-length
 same-length c = search needs
 
 returns : tie.Need-returns
-unfolding lineOf
-returns c = by-line (c .before .before .before .before .before .before .answer .given .1) refl (c .before .before .number-line .ensures)
+returns c = by-line (c .before .before .before .before .before .answer .given .1) refl (c .before .before .started-line .ensures)
 
 same-length-2 : tie.Need-same-length-2
 same-length-2 c = search needs
 
 returns-2 : tie.Need-returns-2
-unfolding lineOf
-returns-2 c = by-line (c .before .before .before .before .before .before .answer2 .given .1) refl (c .before .before .edges-line .ensures)
+returns-2 c = by-line (c .before .before .before .before .before .answer2 .given .1) refl (c .before .before .at-line .ensures)
 
 same-length-3 : tie.Need-same-length-3
 same-length-3 c = search needs
@@ -108,8 +85,7 @@ same-length-5 : tie.Need-same-length-5
 same-length-5 c = search needs
 
 returns-5 : tie.Need-returns-5
-unfolding lineOf
-returns-5 c = by-line (c .before .before .before .before .before .before .answer5 .given .1) refl (c .before .before .number-line2 .ensures)
+returns-5 c = by-line (c .before .before .before .before .before .answer5 .given .1) refl (c .before .before .dropped-line .ensures)
 
 same-length-6 : tie.Need-same-length-6
 same-length-6 c = search needs
@@ -139,36 +115,28 @@ same-length-8 : tie.Need-same-length-8
 same-length-8 c = search needs
 
 returns-8 : tie.Need-returns-8
-unfolding lineOf
-returns-8 c = by-line (c .before .before .before .before .before .before .answer7 .given .1) refl (c .before .before .number-line3 .ensures)
+returns-8 c = by-line (c .before .before .before .before .before .answer7 .given .1) refl (c .before .before .put-refusal .ensures)
 
 pub put-answer-spec : {M : Type 1} → statement M
 put-answer-spec =
     tie.close
     (tie.spec
     enum-known-answer
-    slice-aggregate-number-line
-    cast-number-line
-    number-line-requires
+    started-line-requires
     enum-known-answer-2
-    slice-aggregate-edges-line
-    edges-line-requires
+    at-line-requires
     enum-known-answer-3
     sent-line-requires
     enum-known-answer-4
     replied-line-requires
     enum-known-answer-5
-    slice-aggregate-number-line-2
-    cast-number-line-2
-    number-line-requires-2
+    dropped-line-requires
     enum-known-answer-6
     time-line-requires
     enum-told
     waiting-line-requires
     enum-known-answer-7
-    slice-aggregate-number-line-3
-    cast-number-line-3
-    number-line-requires-3
+    put-refusal-requires
     same-length
     returns
     same-length-2

@@ -1,10 +1,12 @@
 -- `answers::sent_line` meets its contract: the parts are put in the order of the definition, and are at most 6 + 3 + 1 + 10 + 1 bytes.
+use mathlib.Core.List.{append-assoc}
 use native.Mathlib.Omega.{arith}
 use borrow.Author.Needs.{needs}
 use lib.ListN.{length-append}
 use Rattle.numeral.proofs.Digits.{digits-most}
-use Rattle.answers.specs.Answers.{lineOf}
 use Rattle.writing.proofs.PutsLaws.{one-put, _then_}
+use Rattle.answers.specs.Answers.{lineOf}
+use Rattle.answers.proofs.LineLaws.{puts-same}
 use Rattle.answers.proofs.sent_line.Statement.{statement}
 use Rattle.answers.proofs.sent_line.Tie as tie
 
@@ -45,11 +47,11 @@ returns c =
     let p1 = p2 .before .before .before .before in
     let start = p1 .before .before .before .before in
     record {
-      puts = one-put (p1 .put-bytes .ensures)
+      puts = puts-same (one-put (p1 .put-bytes .ensures)
           then one-put (p2 .put-number .ensures)
           then one-put (p3 .put-bytes2 .ensures)
           then one-put (p4 .put-number2 .ensures)
-          then one-put (p5 .put-bytes3 .ensures);
+          then one-put (p5 .put-bytes3 .ensures)) (simp append-assoc);
       short = (simp length-append (omega (arith, digits-most 2 (start .args .peer) (omega (arith, start .fits)), digits-most 9 (start .args .tag) (omega (arith, start .fits)))));
     }
 

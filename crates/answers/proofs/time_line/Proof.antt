@@ -1,13 +1,17 @@
 -- `answers::time_line` meets its contract: the parts are put in the order of the definition, and are at most 6 + 43 + 1 + 43 + 1 + 10 + 1 + 10 + 1 bytes.
-use mathlib.Core.Path.{_∙_}
+use mathlib.Core.Path.{ap, _∙_}
 use native.Mathlib.Omega.{arith}
 use borrow.Author.Needs.{needs}
-use lib.ListN.{length-append}
 use mir.Facts.{toZ-ofZ}
+use lib.ListN.{length-append}
+use Rattle.text.specs.Words.{bytes}
+use Rattle.text.proofs.OutputLaws.{put-same}
+use Rattle.numeral.specs.Digits.{signedDigits}
 use Rattle.numeral.proofs.Digits.{digits-most}
 use Rattle.moment.proofs.Integers.{got}
-use Rattle.writing.proofs.PutsLaws.{one-put, _then_}
+use Rattle.writing.proofs.PutsLaws.{one-put, _then_, pair-most}
 use Rattle.answers.specs.Answers.{lineOf}
+use Rattle.answers.proofs.LineLaws.{puts-same, time-parts}
 use Rattle.answers.proofs.time_line.Statement.{statement}
 use Rattle.answers.proofs.time_line.Tie as tie
 
@@ -17,8 +21,8 @@ slice-aggregate-put-bytes c = search needs
 put-bytes-requires : tie.Need-put-bytes-requires
 put-bytes-requires c κs = search needs
 
-put-pair-requires : tie.Need-put-pair-requires
-put-pair-requires c κs = search needs
+put-signed-requires : tie.Need-put-signed-requires
+put-signed-requires c κs = search needs
 
 slice-aggregate-put-bytes-2 : tie.Need-slice-aggregate-put-bytes-2
 slice-aggregate-put-bytes-2 c = search needs
@@ -26,8 +30,8 @@ slice-aggregate-put-bytes-2 c = search needs
 put-bytes-requires-2 : tie.Need-put-bytes-requires-2
 put-bytes-requires-2 c κs = search needs
 
-put-pair-requires-2 : tie.Need-put-pair-requires-2
-put-pair-requires-2 c κs = search needs
+put-signed-requires-2 : tie.Need-put-signed-requires-2
+put-signed-requires-2 c κs = search needs
 
 slice-aggregate-put-bytes-3 : tie.Need-slice-aggregate-put-bytes-3
 slice-aggregate-put-bytes-3 c = search needs
@@ -35,8 +39,8 @@ slice-aggregate-put-bytes-3 c = search needs
 put-bytes-requires-3 : tie.Need-put-bytes-requires-3
 put-bytes-requires-3 c κs = search needs
 
-put-number-requires : tie.Need-put-number-requires
-put-number-requires c κs = search needs
+put-signed-requires-3 : tie.Need-put-signed-requires-3
+put-signed-requires-3 c κs = search needs
 
 slice-aggregate-put-bytes-4 : tie.Need-slice-aggregate-put-bytes-4
 slice-aggregate-put-bytes-4 c = search needs
@@ -44,68 +48,67 @@ slice-aggregate-put-bytes-4 c = search needs
 put-bytes-requires-4 : tie.Need-put-bytes-requires-4
 put-bytes-requires-4 c κs = search needs
 
-put-number-requires-2 : tie.Need-put-number-requires-2
-put-number-requires-2 c κs = search needs
+put-signed-requires-4 : tie.Need-put-signed-requires-4
+put-signed-requires-4 c κs = search needs
 
-slice-aggregate-put-bytes-5 : tie.Need-slice-aggregate-put-bytes-5
-slice-aggregate-put-bytes-5 c = search needs
-
-put-bytes-requires-5 : tie.Need-put-bytes-requires-5
-put-bytes-requires-5 c κs = search needs
+put-counts-requires : tie.Need-put-counts-requires
+put-counts-requires c κs = search needs
 
 same-length : tie.Need-same-length
 same-length c =
     let p9 = c .before .before in
-    let p8 = p9 .before .before .before .before .before in
+    let p8 = p9 .before .before .before .before in
     let p7 = p8 .before .before .before .before in
     let p6 = p7 .before .before .before .before .before in
     let p5 = p6 .before .before .before .before in
     let p4 = p5 .before .before .before .before .before in
-    let p3 = p4 .before .before .before .before in
+    let p3 = p4 .before .before .before .before .before in
     let p2 = p3 .before .before .before .before .before in
-    let p1 = p2 .before .before .before .before .before .before in
-    p9 .put-bytes5 .kept .0
-    ∙ p8 .put-number2 .kept .0
+    let p1 = p2 .before .before .before .before .before in
+    p9 .put-counts .kept .0
+    ∙ p8 .put-signed4 .kept .0
     ∙ p7 .put-bytes4 .kept .0
-    ∙ p6 .put-number .kept .0
+    ∙ p6 .put-signed3 .kept .0
     ∙ p5 .put-bytes3 .kept .0
-    ∙ p4 .put-pair2 .kept .0
+    ∙ p4 .put-signed2 .kept .0
     ∙ p3 .put-bytes2 .kept .0
-    ∙ p2 .put-pair .kept .0
+    ∙ p2 .put-signed .kept .0
     ∙ p1 .put-bytes .kept .0
 
 returns : tie.Need-returns
 unfolding lineOf
 returns c =
     let p9 = c .before .before in
-    let p8 = p9 .before .before .before .before .before in
+    let p8 = p9 .before .before .before .before in
     let p7 = p8 .before .before .before .before in
     let p6 = p7 .before .before .before .before .before in
     let p5 = p6 .before .before .before .before in
     let p4 = p5 .before .before .before .before .before in
-    let p3 = p4 .before .before .before .before in
+    let p3 = p4 .before .before .before .before .before in
     let p2 = p3 .before .before .before .before .before in
-    let p1 = p2 .before .before .before .before .before .before in
+    let p1 = p2 .before .before .before .before .before in
     let start = p1 .before .before .before .before in
     let x = start .args in
-    let edges = rw (got (x .edges .lower) (p2 .before .before .struct-told .given .0 .1), got (x .edges .upper) (p2 .before .struct-told2 .given .1 .0 .1)) at (p2 .put-pair .ensures) in
-    let middle = rw (toZ-ofZ (start .fits .centre), toZ-ofZ (start .fits .error)) at (p4 .put-pair2 .ensures) in
+    let lower = p2 .before .struct-told .given .0 .1 in
+    let upper = p4 .before .struct-told2 .given .1 .0 .1 in
     record {
-      puts = one-put (p1 .put-bytes .ensures)
-          then edges .0
+      puts = puts-same
+          (one-put (p1 .put-bytes .ensures)
+          then one-put (put-same (p2 .put-signed .ensures) (ap signedDigits (got (x .edges .lower) lower)))
           then one-put (p3 .put-bytes2 .ensures)
-          then middle .0
+          then one-put (put-same (p4 .put-signed2 .ensures) (ap signedDigits (got (x .edges .upper) upper)))
           then one-put (p5 .put-bytes3 .ensures)
-          then one-put (p6 .put-number .ensures)
+          then one-put (put-same (p6 .put-signed3 .ensures) (ap signedDigits (toZ-ofZ (start .fits .centre))))
           then one-put (p7 .put-bytes4 .ensures)
-          then one-put (p8 .put-number2 .ensures)
-          then one-put (p9 .put-bytes5 .ensures);
+          then one-put (put-same (p8 .put-signed4 .ensures) (ap signedDigits (toZ-ofZ (start .fits .error))))
+          then p9 .put-counts .ensures)
+          (time-parts (bytes "(time ") (x .edges .lower) (x .edges .upper) (x .centre) (x .error) (x .conflicts) (x .waiting));
       short =
           simp length-append
           (omega (
             arith,
-            edges .1,
-            middle .1,
+            pair-most (x .edges .lower) (x .edges .upper) lower upper,
+            pair-most (x .centre) (x .error) (start .fits .centre .sfits) (start .fits .error .sfits),
             digits-most 9 (x .conflicts) (omega (arith, start .fits .conflicts)),
             digits-most 9 (x .waiting) (omega (arith, start .fits .waiting)),
           ));
@@ -117,17 +120,16 @@ time-line-spec =
     (tie.spec
     slice-aggregate-put-bytes
     put-bytes-requires
-    put-pair-requires
+    put-signed-requires
     slice-aggregate-put-bytes-2
     put-bytes-requires-2
-    put-pair-requires-2
+    put-signed-requires-2
     slice-aggregate-put-bytes-3
     put-bytes-requires-3
-    put-number-requires
+    put-signed-requires-3
     slice-aggregate-put-bytes-4
     put-bytes-requires-4
-    put-number-requires-2
-    slice-aggregate-put-bytes-5
-    put-bytes-requires-5
+    put-signed-requires-4
+    put-counts-requires
     same-length
     returns)

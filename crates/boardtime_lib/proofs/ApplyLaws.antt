@@ -1,0 +1,82 @@
+-- What is stored after a command makes the image that of the keeper which the command gives: an image whose keeper counts as started is its
+-- keeper's image to the byte, and the stores are what the answer changes.
+use mathlib.Core.Path.{_≡_, refl, sym, ap, _∙_}
+use mathlib.Core.Bool.{Bool, true, false}
+use mathlib.Core.List.{List}
+use Prim.Native.Nat.{ℕ}
+use lib.ListN.{length}
+use Rattle.bits.specs.Choice.{choose}
+use Rattle.bits.proofs.Tests.{clash}
+use Rattle.rules.specs.Verdict.{conflictsAfter}
+use Rattle.command.specs.declared.Command.{Command}
+use Rattle.command.specs.declared.Command.the-variants as C
+use Rattle.keeper.specs.State.{fresh, countsAsStarted}
+use Rattle.keeper.specs.Apply.{apply, numberOf, changed, passedTo, asked, ended}
+use Rattle.keeper.specs.declared.Keeper.{Keeper}
+use Rattle.keeper.specs.declared.Answer.{Answer}
+use Rattle.keeper.specs.declared.Answer.the-variants as A
+use Rattle.keeper.proofs.StartedLaws.{fresh-not-started}
+use Rattle.keeper.proofs.Accepted.{Moved, Changed, changed-by, pass-changes}
+use Rattle.image.specs.Layout.{imageLength, imageOf, AllBelow, readable, keeperAt, keeperIn}
+use Rattle.image.proofs.ReadBack.{read-is-image}
+use Rattle.changes.specs.Changes.{passedImage, askedImage, endedImage}
+use Rattle.changes.proofs.ChangeLaws.{passed-image, asked-image, ended-image}
+use Rattle.boardtime_lib.specs.Images.{imageLeft}
+use Rattle.boardtime_lib.specs.Apply.{storedAfter}
+use Rattle.boardtime_lib.proofs.ImageLaws.{store-whole, left-refused}
+
+-- a keeper that counts as started stands in an image that can be read
+readable-is : (image : List ℕ) → countsAsStarted (keeperIn image) ≡ true → readable image ≡ true
+unfolding keeperIn
+readable-is image e = go (readable image) refl e
+  where
+    go : (t : Bool) → readable image ≡ t → countsAsStarted (choose t (λ _. keeperAt image) (λ _. fresh)) ≡ true → readable image ≡ true
+    go true r e = r
+    go false r e = absurd (clash e fresh-not-started)
+
+module _
+    (image : List ℕ)
+    (whole : length image ≡ imageLength)
+    (bytes : AllBelow 256 image)
+    (tags : length (keeperIn image .tags) ≡ 16)
+    (sent : length (keeperIn image .«sent_at») ≡ 16)
+  where
+  image-is : countsAsStarted (keeperIn image) ≡ true → image ≡ imageOf (keeperIn image)
+  image-is e = sym (read-is-image image bytes (readable-is image e))
+
+  pass-left : (l : Keeper) → Moved (keeperIn image) l (passedTo (keeperIn image) (l .edges) (l .ticks)) → passedImage image (l .edges) (l .ticks) ≡ imageOf l
+  pass-left l m =
+      ap (λ (i : List ℕ). passedImage i (l .edges) (l .ticks)) (image-is (m .started))
+      ∙ passed-image (keeperIn image) tags sent (l .edges) (l .ticks)
+      ∙ ap imageOf (sym (m .next-is))
+
+  stored-left : (a : Answer) (l : Keeper) → Changed a (keeperIn image) l → storedAfter a l image ≡ imageLeft image (numberOf a) l
+  unfolding imageLeft passedTo asked ended changed
+  stored-left (A.Started board) l h = store-whole image whole l refl
+  stored-left (A.At ticks edges) l m =
+      rw (m .next-is)
+      (ap (λ (i : List ℕ). passedImage i edges ticks) (image-is (m .started)) ∙ passed-image (keeperIn image) tags sent edges ticks)
+  stored-left (A.Sent peer tag) l (small, m) =
+      let k = keeperIn image in
+      rw (m .next-is)
+      (ap (λ (i : List ℕ). askedImage i (asked k peer .waiting) (asked k peer .requests) peer (k .ticks)) (image-is (m .started)) ∙ asked-image k tags sent peer small)
+  stored-left (A.Replied peer v) l (small, m) =
+      let k = keeperIn image in
+      let conflicts = conflictsAfter (k .conflicts) (v .finding) in
+      rw (m .next-is)
+      (ap (λ (i : List ℕ). endedImage i (ended k peer (v .edges) conflicts .waiting) (v .edges) conflicts peer) (image-is (m .started))
+      ∙ ended-image k tags sent peer (v .edges) conflicts small)
+  stored-left (A.Dropped peer) l (small, m) =
+      let k = keeperIn image in
+      rw (m .next-is)
+      (ap (λ (i : List ℕ). endedImage i (ended k peer (k .edges) (k .conflicts) .waiting) (k .edges) (k .conflicts) peer) (image-is (m .started))
+      ∙ ended-image k tags sent peer (k .edges) (k .conflicts) small)
+  stored-left (A.Time edges centre error conflicts waiting) l m = image-is (m .started) ∙ ap imageOf (sym (m .next-is))
+  stored-left A.Waiting l m = image-is (m .started) ∙ ap imageOf (sym (m .next-is))
+  stored-left (A.Refused n) l (some, same) = left-refused image whole n l some
+
+  pub command-stored : (c : Command) → let o = apply (keeperIn image) c in storedAfter (o .answer) (o .keeper) image ≡ imageLeft image (numberOf (o .answer)) (o .keeper)
+  command-stored c = let o = apply (keeperIn image) c in stored-left (o .answer) (o .keeper) (changed-by (keeperIn image) c)
+
+  pub pass-stored : (n : ℕ) → let o = apply (keeperIn image) (C.Pass n) in numberOf (o .answer) ≡ 0 → passedImage image (o .keeper .edges) (o .keeper .ticks) ≡ imageOf (o .keeper)
+  pass-stored n e = pass-left (apply (keeperIn image) (C.Pass n) .keeper) (pass-changes (keeperIn image) n e)

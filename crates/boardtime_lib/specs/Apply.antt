@@ -1,0 +1,31 @@
+-- What a command does to an image, as private functions of the library promise it.
+use mathlib.Core.Path.{_≡_}
+use mathlib.Core.List.{List}
+use Prim.Native.Nat.{ℕ, _+_, _*_}
+use Rattle.command.specs.declared.Command.{Command}
+use Rattle.keeper.specs.Apply.{apply, numberOf}
+use Rattle.keeper.specs.declared.Keeper.{Keeper}
+use Rattle.keeper.specs.declared.Answer.{Answer}
+use Rattle.keeper.specs.declared.Answer.the-variants as A
+use Rattle.line.specs.Call.{Wrote}
+use Rattle.image.specs.Layout.{imageAfter, keeperIn}
+use Rattle.changes.specs.Changes.{passedImage, askedImage, endedImage}
+use Rattle.boardtime_lib.specs.Images.{imageLeft}
+
+-- The image after an answer was given: what the answered command changes is stored, from the keeper that it handed back.
+abbrev pub storedAfter : Answer → Keeper → List ℕ → List ℕ
+storedAfter (A.Started board) k image = imageAfter image k
+storedAfter (A.At ticks edges) k image = passedImage image (k .edges) (k .ticks)
+storedAfter (A.Sent peer tag) k image = askedImage image (k .waiting) (k .requests) peer (k .ticks)
+storedAfter (A.Replied peer verdict) k image = endedImage image (k .waiting) (k .edges) (k .conflicts) peer
+storedAfter (A.Dropped peer) k image = endedImage image (k .waiting) (k .edges) (k .conflicts) peer
+storedAfter (A.Time edges centre error conflicts waiting) k image = image
+storedAfter A.Waiting k image = image
+storedAfter (A.Refused n) k image = image
+
+-- A command on the keeper that stands in the image: its answer is written, and the image is that of the keeper which it gives.
+pub record CommandImage (image : List ℕ) (c : Command) (out : List ℕ) (r : ℕ) (image′ out′ : List ℕ) : Type 0 where
+  pub written : ℕ
+  pub wrote : Wrote (apply (keeperIn image) c .answer) (apply (keeperIn image) c .keeper) out out′ written
+  pub returned : r ≡ numberOf (apply (keeperIn image) c .answer) + 256 * written
+  pub image-is : image′ ≡ imageLeft image (numberOf (apply (keeperIn image) c .answer)) (apply (keeperIn image) c .keeper)
