@@ -17,6 +17,7 @@ use Rattle.keeper.specs.declared.Answer.{Answer}
 use Rattle.keeper.specs.declared.Answer.the-variants as A
 use Rattle.keeper.proofs.StartedLaws.{fresh-not-started}
 use Rattle.keeper.proofs.Accepted.{Moved, Changed, changed-by, pass-changes}
+use Rattle.lent.specs.Lent.{PassLent}
 use Rattle.image.specs.Layout.{imageLength, imageOf, AllBelow, readable, keeperAt, keeperIn}
 use Rattle.image.proofs.ReadBack.{read-is-image}
 use Rattle.changes.specs.Changes.{passedImage, askedImage, endedImage}
@@ -41,42 +42,50 @@ module _
     (tags : length (keeperIn image .tags) ≡ 16)
     (sent : length (keeperIn image .«sent_at») ≡ 16)
   where
-  image-is : countsAsStarted (keeperIn image) ≡ true → image ≡ imageOf (keeperIn image)
-  image-is e = sym (read-is-image image bytes (readable-is image e))
+    image-is : countsAsStarted (keeperIn image) ≡ true → image ≡ imageOf (keeperIn image)
+    image-is e = sym (read-is-image image bytes (readable-is image e))
 
-  pass-left : (l : Keeper) → Moved (keeperIn image) l (passedTo (keeperIn image) (l .edges) (l .ticks)) → passedImage image (l .edges) (l .ticks) ≡ imageOf l
-  pass-left l m =
-      ap (λ (i : List ℕ). passedImage i (l .edges) (l .ticks)) (image-is (m .started))
-      ∙ passed-image (keeperIn image) tags sent (l .edges) (l .ticks)
-      ∙ ap imageOf (sym (m .next-is))
+    pass-left : (l : Keeper) → Moved (keeperIn image) l (passedTo (keeperIn image) (l .edges) (l .ticks)) → passedImage image (l .edges) (l .ticks) ≡ imageOf l
+    pass-left l m =
+        ap (λ (i : List ℕ). passedImage i (l .edges) (l .ticks)) (image-is (m .started))
+        ∙ passed-image (keeperIn image) tags sent (l .edges) (l .ticks)
+        ∙ ap imageOf (sym (m .next-is))
 
-  stored-left : (a : Answer) (l : Keeper) → Changed a (keeperIn image) l → storedAfter a l image ≡ imageLeft image (numberOf a) l
-  unfolding imageLeft passedTo asked ended changed
-  stored-left (A.Started board) l h = store-whole image whole l refl
-  stored-left (A.At ticks edges) l m =
-      rw (m .next-is)
-      (ap (λ (i : List ℕ). passedImage i edges ticks) (image-is (m .started)) ∙ passed-image (keeperIn image) tags sent edges ticks)
-  stored-left (A.Sent peer tag) l (small, m) =
-      let k = keeperIn image in
-      rw (m .next-is)
-      (ap (λ (i : List ℕ). askedImage i (asked k peer .waiting) (asked k peer .requests) peer (k .ticks)) (image-is (m .started)) ∙ asked-image k tags sent peer small)
-  stored-left (A.Replied peer v) l (small, m) =
-      let k = keeperIn image in
-      let conflicts = conflictsAfter (k .conflicts) (v .finding) in
-      rw (m .next-is)
-      (ap (λ (i : List ℕ). endedImage i (ended k peer (v .edges) conflicts .waiting) (v .edges) conflicts peer) (image-is (m .started))
-      ∙ ended-image k tags sent peer (v .edges) conflicts small)
-  stored-left (A.Dropped peer) l (small, m) =
-      let k = keeperIn image in
-      rw (m .next-is)
-      (ap (λ (i : List ℕ). endedImage i (ended k peer (k .edges) (k .conflicts) .waiting) (k .edges) (k .conflicts) peer) (image-is (m .started))
-      ∙ ended-image k tags sent peer (k .edges) (k .conflicts) small)
-  stored-left (A.Time edges centre error conflicts waiting) l m = image-is (m .started) ∙ ap imageOf (sym (m .next-is))
-  stored-left A.Waiting l m = image-is (m .started) ∙ ap imageOf (sym (m .next-is))
-  stored-left (A.Refused n) l (some, same) = left-refused image whole n l some
+    stored-left : (a : Answer) (l : Keeper) → Changed a (keeperIn image) l → storedAfter a l image ≡ imageLeft image (numberOf a) l
+    unfolding imageLeft passedTo asked ended changed
+    stored-left (A.Started board) l h = store-whole image whole l refl
+    stored-left (A.At ticks edges) l m =
+        rw (m .next-is)
+        (ap (λ (i : List ℕ). passedImage i edges ticks) (image-is (m .started)) ∙ passed-image (keeperIn image) tags sent edges ticks)
+    stored-left (A.Sent peer tag) l (small, m) =
+        let k = keeperIn image in
+        rw (m .next-is)
+        (ap (λ (i : List ℕ). askedImage i (asked k peer .waiting) (asked k peer .requests) peer (k .ticks)) (image-is (m .started)) ∙ asked-image k tags sent peer small)
+    stored-left (A.Replied peer v) l (small, m) =
+        let k = keeperIn image in
+        let conflicts = conflictsAfter (k .conflicts) (v .finding) in
+        rw (m .next-is)
+        (ap (λ (i : List ℕ). endedImage i (ended k peer (v .edges) conflicts .waiting) (v .edges) conflicts peer) (image-is (m .started))
+        ∙ ended-image k tags sent peer (v .edges) conflicts small)
+    stored-left (A.Dropped peer) l (small, m) =
+        let k = keeperIn image in
+        rw (m .next-is)
+        (ap (λ (i : List ℕ). endedImage i (ended k peer (k .edges) (k .conflicts) .waiting) (k .edges) (k .conflicts) peer) (image-is (m .started))
+        ∙ ended-image k tags sent peer (k .edges) (k .conflicts) small)
+    stored-left (A.Time edges centre error conflicts waiting) l m = image-is (m .started) ∙ ap imageOf (sym (m .next-is))
+    stored-left A.Waiting l m = image-is (m .started) ∙ ap imageOf (sym (m .next-is))
+    stored-left (A.Refused n) l (some, same) = left-refused image whole n l some
 
-  pub command-stored : (c : Command) → let o = apply (keeperIn image) c in storedAfter (o .answer) (o .keeper) image ≡ imageLeft image (numberOf (o .answer)) (o .keeper)
-  command-stored c = let o = apply (keeperIn image) c in stored-left (o .answer) (o .keeper) (changed-by (keeperIn image) c)
+    pub command-stored : (c : Command) → let o = apply (keeperIn image) c in storedAfter (o .answer) (o .keeper) image ≡ imageLeft image (numberOf (o .answer)) (o .keeper)
+    command-stored c = let o = apply (keeperIn image) c in stored-left (o .answer) (o .keeper) (changed-by (keeperIn image) c)
 
-  pub pass-stored : (n : ℕ) → let o = apply (keeperIn image) (C.Pass n) in numberOf (o .answer) ≡ 0 → passedImage image (o .keeper .edges) (o .keeper .ticks) ≡ imageOf (o .keeper)
-  pass-stored n e = pass-left (apply (keeperIn image) (C.Pass n) .keeper) (pass-changes (keeperIn image) n e)
+    -- of a pass that was accepted, edges and ticks are all that is to be stored
+    pub pass-kept : {image′ : List ℕ} {k next : Keeper} {n number : ℕ} → k ≡ keeperIn image → PassLent k n number next → number ≡ 0
+        → image′ ≡ passedImage image (next .edges) (next .ticks) → image′ ≡ imageLeft image 0 next
+    unfolding imageLeft
+    pass-kept {next = next} {n = n} e lent zero stored =
+        let is : next ≡ apply (keeperIn image) (C.Pass n) .keeper = lent .keeper-is ∙ ap (λ (x : Keeper). apply x (C.Pass n) .keeper) e in
+        let none : numberOf (apply (keeperIn image) (C.Pass n) .answer) ≡ 0 =
+        ap (λ (x : Keeper). numberOf (apply x (C.Pass n) .answer)) (sym e) ∙ sym (lent .number-is) ∙ zero
+        in
+        stored ∙ pass-left next (rw is (pass-changes (keeperIn image) n none))

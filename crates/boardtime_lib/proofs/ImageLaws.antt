@@ -1,13 +1,17 @@
 -- The laws of a lent image: one of another length, a refused call, and an accepted one.
-use mathlib.Core.Path.{_≡_, refl, ap, _∙_}
+use mathlib.Core.Path.{_≡_, refl, sym, ap, _∙_, subst}
 use mathlib.Core.Bool.{false}
 use mathlib.Core.List.{List}
-use Prim.Native.Nat.{ℕ, _+_, _*_}
-use borrow.Author.Tests.{eq-eqb, ne-eqb}
+use Prim.Native.Nat.{ℕ, _+_, _*_, _<_, _≤_}
+use borrow.Author.Tests.{eq-eqb, ne-eqb, lt-ltb, le-ltb}
 use lib.ListN.{length}
 use native.Mathlib.Omega.{arith}
 use Rattle.command.specs.Limits.{ticksWithin}
+use Rattle.command.specs.declared.Command.{Command}
 use Rattle.command.specs.declared.Command.the-variants as C
+use Rattle.command.specs.declared.Reading.{Reading}
+use Rattle.command.specs.declared.Reading.the-variants.{Accepted, NoShape, OutsideLimits}
+use Rattle.reader.specs.Reading.{readingOf}
 use Rattle.keeper.specs.State.{fresh, stateOf}
 use Rattle.command.specs.Causes.{first, ownCauses}
 use Rattle.keeper.specs.Refusals.{refusal, causes}
@@ -17,9 +21,12 @@ use Rattle.keeper.proofs.CallLaws.{apply-refused}
 use Rattle.keeper.specs.declared.Keeper.{Keeper}
 use Rattle.keeper.specs.declared.Outcome.{Outcome}
 use Rattle.lent.specs.Lent.{PassLent}
-use Rattle.line.specs.Call.{Called}
+use Rattle.answers.specs.Answers.{leastOutput}
+use Rattle.line.specs.Call.{byReading, answered, numberAfter, keeperAfter, Wrote, Called}
+use Rattle.line.proofs.ResponseLaws.{wrote-within}
 use Rattle.image.specs.Layout.{imageLength, imageOf, imageAfter, keeperIn}
 use Rattle.boardtime_lib.specs.Images.{wrongLength, Refused, imageLeft, FreshImage, LineImage, PassImage}
+use Rattle.boardtime_lib.specs.Apply.{CommandImage}
 
 -- ---- a buffer of another length
 
@@ -48,20 +55,72 @@ module _ (image : List ℕ) (whole : length image ≡ imageLength) where
   unfolding imageLeft
   left-refused number k h = rw (ne-eqb _ _ h)
 
-  pub left-stored : (number : ℕ) (k : Keeper) {image′ : List ℕ} → number ≡ 0 → image′ ≡ imageAfter image k → image′ ≡ imageLeft image number k
-  unfolding imageLeft
-  left-stored number k zero e = rw (eq-eqb _ _ zero) (store-whole k e)
-
   pub fresh-stored : {image′ : List ℕ} {k : Keeper} → k ≡ fresh → image′ ≡ imageAfter image k → FreshImage image 0 image′
   fresh-stored {k = k} e s = record { other-length = λ h. absurd (h whole); stored = λ _. (refl, store-whole k s ∙ ap imageOf e) }
 
-  pub line-answered : {line out image′ out′ : List ℕ} {k next : Keeper} {number n : ℕ} → k ≡ keeperIn image → Called k line out number next out′ n
+  line-answered : {line out image′ out′ : List ℕ} {next : Keeper} {number n : ℕ} → Called (keeperIn image) line out number next out′ n
       → image′ ≡ imageLeft image number next → LineImage image line out (number + 256 * n) image′ out′
-  line-answered {number = number} {n = n} e call left =
+  line-answered {number = number} {n = n} call left =
       record {
         other-length = λ h. absurd (h whole);
-        answered = λ _. record { number = number; keeper = _; written = n; call = rw e at call; returned = refl; image-is = left };
+        answered = λ _. record { number = number; keeper = _; written = n; call = call; returned = refl; image-is = left };
       }
+
+  -- an output that is too short: no byte is touched
+  pub line-short : {out : List ℕ} (line : List ℕ) → length out < leastOutput → LineImage image line out 10 image out
+  unfolding numberAfter keeperAfter
+  line-short {out} line short =
+      line-answered {next = keeperIn image} {n = 0}
+      (record {
+        number-is = rw (lt-ltb _ _ short);
+        keeper-is = rw (lt-ltb _ _ short);
+        untouched = λ h. (refl, refl);
+        written = λ h. absurd (omega arith);
+        within = omega arith;
+      })
+      (left-refused 10 (keeperIn image) (λ e. let z : _≡_ {A = ℕ} 10 0 = e in omega arith))
+
+  -- an output with room: what is answered to the line is written
+  line-written : {line out image′ out′ : List ℕ} {n : ℕ} (o : Outcome) → leastOutput ≤ length out → length out′ ≡ length out → answered (keeperIn image) line ≡ o
+      → Wrote (o .answer) (o .keeper) out out′ n → image′ ≡ imageLeft image (numberOf (o .answer)) (o .keeper)
+      → LineImage image line out (numberOf (o .answer) + 256 * n) image′ out′
+  unfolding numberAfter keeperAfter
+  line-written {line} {out} {image′} {out′} {n} o room same e wrote left =
+      line-answered
+      (record {
+        number-is = rw (le-ltb _ _ room) (ap (λ (x : Outcome). numberOf (x .answer)) (sym e));
+        keeper-is = rw (le-ltb _ _ room) (ap (λ (x : Outcome). x .keeper) (sym e));
+        untouched = λ h. absurd (omega arith);
+        written = λ h. subst (λ (x : Outcome). Wrote (x .answer) (x .keeper) out out′ n) (sym e) wrote;
+        within = wrote-within wrote same;
+      })
+      left
+
+  pub line-command : {line out image′ out′ : List ℕ} {r : ℕ} {c : Command} → leastOutput ≤ length out → length out′ ≡ length out → readingOf line ≡ Accepted c
+      → CommandImage image c out r image′ out′ → LineImage image line out r image′ out′
+  unfolding answered
+  line-command {c = c} room same read command =
+      rw (command .returned)
+      (line-written (apply (keeperIn image) c) room same (ap (λ (x : Reading). byReading x (keeperIn image)) read) (command .wrote) (command .image-is))
+
+  -- a line that is no command leaves the image as it was
+  line-none : {line out out′ : List ℕ} {n : ℕ} (m : ℕ) → (m ≡ 0 → ⊥) → leastOutput ≤ length out → length out′ ≡ length out
+      → answered (keeperIn image) line ≡ outcomeOf (A.Refused m) (keeperIn image) → ((k : Keeper) → Wrote (A.Refused m) k out out′ n)
+      → LineImage image line out (m + 256 * n) image out′
+  line-none m some room same e wrote =
+      line-written (outcomeOf (A.Refused m) (keeperIn image)) room same e (wrote (keeperIn image)) (left-refused m (keeperIn image) some)
+
+  pub line-no-shape : {line out out′ : List ℕ} {n : ℕ} → leastOutput ≤ length out → length out′ ≡ length out → readingOf line ≡ NoShape
+      → ((k : Keeper) → Wrote (A.Refused 1) k out out′ n) → LineImage image line out (1 + 256 * n) image out′
+  unfolding answered
+  line-no-shape room same read wrote =
+      line-none 1 (λ e. let z : _≡_ {A = ℕ} 1 0 = e in omega arith) room same (ap (λ (x : Reading). byReading x (keeperIn image)) read) wrote
+
+  pub line-outside : {line out out′ : List ℕ} {n : ℕ} → leastOutput ≤ length out → length out′ ≡ length out → readingOf line ≡ OutsideLimits
+      → ((k : Keeper) → Wrote (A.Refused 2) k out out′ n) → LineImage image line out (2 + 256 * n) image out′
+  unfolding answered
+  line-outside room same read wrote =
+      line-none 2 (λ e. let z : _≡_ {A = ℕ} 2 0 = e in omega arith) room same (ap (λ (x : Reading). byReading x (keeperIn image)) read) wrote
 
   pub pass-moved : {image′ : List ℕ} {k next : Keeper} {ticks number r : ℕ} → k ≡ keeperIn image → PassLent k ticks number next → r ≡ number
       → image′ ≡ imageLeft image r next → PassImage image ticks r image′

@@ -7,7 +7,7 @@ use mathlib.Core.List.{List, [], _∷_, _++_, append-assoc, append-nil}
 use Prim.Native.Nat.{ℕ, zero, suc, _+_, _-_, _*_, _/_, _%_, _<_, _≤_}
 use native.Mathlib.Nat.{lt-of-not-le}
 use native.Mathlib.Omega.{arith}
-use borrow.Author.Tests.{ltb-true, ltb-false, leb-true, leb-false, not-true}
+use borrow.Author.Tests.{ltb-true, ltb-false, leb-true, leb-false}
 use lib.Dec.{leb, ltb}
 use lib.ListN.{length, drop, getD, List·getD-append}
 use lib.Seq.{drop-drop}
@@ -17,7 +17,7 @@ use Rattle.numeral.specs.Numerals.{Numeral, AllDigits, none, more, Descr
 use Rattle.numeral.specs.Reading.{isDigit, numeralEnds, run, valueFrom, wellFormed, numberIn, numberAt}
 use Rattle.numeral.specs.declared.read.Number.the-variants as N
 use Rattle.numeral.proofs.Digits.{digits-one, digits-more, digits-some}
-use Rattle.numeral.proofs.Reading.{is-digit, digit-bounds, formed-one, formed-more, formed-not-empty, formed-not-long, formed-not-zero}
+use Rattle.numeral.proofs.Reading.{is-digit, digit-bounds, run-none, formed-one, formed-more, formed-not-empty, formed-not-long, formed-not-zero}
 use Rattle.bits.specs.Choice.{choose}
 
 -- ---- the digits of a number, by their last one
@@ -142,11 +142,7 @@ described s = (to, from)
 -- the run of digits that do not go on is all of them
 pub run-all : {s : List ℕ} → AllDigits s → (rest : List ℕ) → numeralEnds rest ≡ true → run (s ++ rest) ≡ s
 unfolding run
-run-all none rest e = ends rest e
-  where
-    ends : (rest : List ℕ) → numeralEnds rest ≡ true → run rest ≡ []
-    ends [] e = refl
-    ends (b ∷ rest) e = rw (not-true (isDigit b) e)
+run-all none rest e = run-none rest e
 run-all (more {b = b} {s = s} low high r) rest e = rw (is-digit b low high) (ap (λ (x : List ℕ). b ∷ x) (run-all r rest e))
 
 -- a run is digits, and stands at the front

@@ -1,34 +1,26 @@
--- Laws of the readers' definitions, for the proofs of the code: what the byte at a place says of `digitIn` and `run`, and how a run of
--- digits is read one digit after the other.
-use mathlib.Core.Path.{_≡_, refl, ap, _∙_}
-use mathlib.Core.Bool.{Bool, true, false, _&&_}
+-- Laws of the readers' definitions, for the proofs of the code: what the byte at a place says of `numeralEnds` and `run`, how a run is read,
+-- one digit or several at a time, and which answer it has.
+use mathlib.Core.Path.{_≡_, refl, sym, ap, _∙_}
+use mathlib.Core.Bool.{Bool, true, false, not, _&&_}
 use mathlib.Core.List.{List, [], _∷_}
-use Prim.Native.Nat.{ℕ, suc, _+_, _-_, _*_, _^_, _<_, _≤_}
-use native.Mathlib.Nat.{pow-suc, pow-le-pow-right, lt-of-lt-of-le, add-zero}
+use Prim.Native.Nat.{ℕ, _+_, _-_, _*_, _^_, _<_, _≤_}
+use native.Mathlib.Nat.{add-mul, mul-assoc, add-assoc, mul-one, mul-le-mul-right, pow-le-pow-right, lt-of-lt-of-le, add-zero}
+use native.Mathlib.Numerals.{add-one}
 use native.Mathlib.Omega.{arith}
-use borrow.Author.Tests.{le-leb, lt-leb, leb-true, eq-eqb, ne-eqb}
-use lib.Dec.{leb}
-use lib.ListN.{length, drop, getD, drop-of-length-le, length-drop}
-use lib.Seq.{drop-cons, drop-drop, getD-drop}
+use borrow.Author.Tests.{le-leb, lt-leb, lt-ltb, leb-true, eq-eqb, ne-eqb, ltb-true, ltb-false, not-true, not-false}
+use lib.Dec.{leb, ltb}
+use lib.ListN.{length, drop, getD, drop-of-length-le}
+use lib.Pow.{pow-add}
+use lib.Seq.{drop-cons, getD-drop}
 use Rattle.bits.specs.Choice.{choose}
-use Rattle.numeral.specs.Reading.{isDigit, digitIn, run, valueFrom, wellFormed, numberIn, numberAt}
-use Rattle.numeral.specs.declared.read.Digit.the-variants as D
+use Rattle.numeral.specs.Progress.{TellsDigit, digitsEnd, DigitsAt, Progress, AllRead}
+use Rattle.numeral.specs.Reading.{isDigit, numeralEnds, run, valueFrom, wellFormed, numberIn, numberAt}
 use Rattle.numeral.specs.declared.read.Number.the-variants as N
 
 -- ---- one byte
 
 pub is-digit : (b : ℕ) → 48 ≤ b → b ≤ 57 → isDigit b ≡ true
 is-digit b p q = rw (le-leb 48 b p, le-leb b 57 q)
-
-pub below-digits : (b : ℕ) → b < 48 → isDigit b ≡ false
-below-digits b p = rw (lt-leb 48 b p)
-
-pub above-digits : (b : ℕ) → 57 < b → isDigit b ≡ false
-above-digits b p = go (leb 48 b)
-  where
-    go : (t : Bool) → (t && leb b 57) ≡ false
-    go true = lt-leb b 57 p
-    go false = refl
 
 pub digit-bounds : (b : ℕ) → isDigit b ≡ true → (48 ≤ b) × (b ≤ 57)
 digit-bounds b e = go (leb 48 b) (leb b 57) refl refl e
@@ -38,131 +30,105 @@ digit-bounds b e = go (leb 48 b) (leb b 57) refl refl e
     go true false p q h = absurd (let k : _≡_ {A = ℕ} 0 1 = cc in omega arith)
     go false u p q h = absurd (let k : _≡_ {A = ℕ} 0 1 = cc in omega arith)
 
-pub digit-of : (b : ℕ) (s : List ℕ) → isDigit b ≡ true → digitIn (b ∷ s) ≡ D.Of (b - 48)
-unfolding digitIn
-digit-of b s e = rw e
+pub not-digit : (b : ℕ) → (48 ≤ b → b ≤ 57 → ⊥) → isDigit b ≡ false
+not-digit b h = go (isDigit b) refl
+  where
+    go : (t : Bool) → isDigit b ≡ t → isDigit b ≡ false
+    go true e = let range = digit-bounds b e in absurd (h (range .0) (range .1))
+    go false e = e
 
-pub digit-other : (b : ℕ) (s : List ℕ) → isDigit b ≡ false → digitIn (b ∷ s) ≡ D.Other
-unfolding digitIn
-digit-other b s e = rw e
+pub ends-at-end : (line : List ℕ) (at : ℕ) → length line ≤ at → numeralEnds (drop at line) ≡ true
+ends-at-end line at h = rw (drop-of-length-le line h)
 
--- the byte at a place within the line
-module _ (line : List ℕ) (at : ℕ) (inside : at < length line) where
-  pub at-digit : 48 ≤ getD line at 0 → getD line at 0 ≤ 57 → digitIn (drop at line) ≡ D.Of (getD line at 0 - 48)
-  at-digit p q = rw (drop-cons line at 0 inside) (digit-of (getD line at 0) (drop (suc at) line) (is-digit _ p q))
+-- what a comparison tells of the byte at a place
+module _ (line : List ℕ) (at : ℕ) {d : ℕ} (inside : at < length line) (told : TellsDigit (getD line at 0) d) where
+  pub ends-told : numeralEnds (drop at line) ≡ ltb 9 d
+  ends-told = rw (drop-cons line at 0 inside) (go (ltb 9 d) refl)
+    where
+      go : (t : Bool) → ltb 9 d ≡ t → not (isDigit (getD line at 0)) ≡ t
+      go true e = rw (told .other (ltb-true 9 d e))
+      go false e = let small : d ≤ 9 = ltb-false 9 d e in rw (told .digit small, is-digit (48 + d) (omega arith) (omega arith))
 
-  pub at-other : isDigit (getD line at 0) ≡ false → digitIn (drop at line) ≡ D.Other
-  at-other e = rw (drop-cons line at 0 inside) (digit-other (getD line at 0) (drop (suc at) line) e)
-
-pub at-end : (line : List ℕ) (at : ℕ) → length line ≤ at → digitIn (drop at line) ≡ D.Other
-unfolding digitIn
-at-end line at h = rw (drop-of-length-le line h)
+  pub ends-other : 9 < d → numeralEnds (drop at line) ≡ true
+  ends-other h = ends-told ∙ lt-ltb 9 d h
 
 -- ---- the run of digits
 
-pub run-none : (s : List ℕ) → digitIn s ≡ D.Other → run s ≡ []
-unfolding run digitIn
+pub run-none : (s : List ℕ) → numeralEnds s ≡ true → run s ≡ []
+unfolding run
 run-none [] e = refl
-run-none (b ∷ s) e = go (isDigit b) e
-  where
-    go : (t : Bool) → choose t (λ _. D.Of (b - 48)) (λ _. D.Other) ≡ D.Other → choose t (λ _. b ∷ run s) (λ _. []) ≡ []
-    go true h = absurd (let k : _≡_ {A = ℕ} 0 1 = cc in omega arith)
-    go false h = refl
+run-none (b ∷ s) e = rw (not-true (isDigit b) e)
+
+pub run-some : (s : List ℕ) → numeralEnds s ≡ false → 0 < length (run s)
+unfolding run
+run-some [] e = absurd (let k : _≡_ {A = ℕ} 0 1 = cc in omega arith)
+run-some (b ∷ s) e = rw (not-false (isDigit b) e) (omega arith)
 
 -- a digit, and the run after it
-pub record Continues (s : List ℕ) (d : ℕ) : Type 0 where
-  pub small : d < 10
-  pub some : 0 < length s
-  pub more : run s ≡ (48 + d) ∷ run (drop 1 s)
+run-more : (b : ℕ) (s : List ℕ) → isDigit b ≡ true → run (b ∷ s) ≡ b ∷ run s
+unfolding run
+run-more b s e = rw e
 
-pub run-more : (s : List ℕ) (d : ℕ) → digitIn s ≡ D.Of d → Continues s d
-unfolding run digitIn
-run-more [] d e = absurd (let k : _≡_ {A = ℕ} 0 1 = cc in omega arith)
-run-more (b ∷ s) d e = go (isDigit b) refl e
-  where
-    go : (t : Bool) → isDigit b ≡ t → choose t (λ _. D.Of (b - 48)) (λ _. D.Other) ≡ D.Of d → Continues (b ∷ s) d
-    go false p h = absurd (let k : _≡_ {A = ℕ} 0 1 = cc in omega arith)
-    go true p h =
-        let range = digit-bounds b p in
-        let same : b - 48 ≡ d = cc in
-        let back : b ≡ 48 + d = omega arith in
-        record {
-          small = omega arith;
-          some = omega arith;
-          more = rw p (ap (λ (x : ℕ). x ∷ run s) back);
-        }
-
--- ---- a run read one digit after the other
-
--- From the place `at`, the digits up to the place `next` are read, and `value` is their number: what is left to read is the run at `next`.
-pub record Progress (line : List ℕ) (at value next : ℕ) : Type 0 where
-  pub from : at ≤ next
-  pub few : next ≤ at + 19
-  pub small : value < 10 ^ (next - at)
-  pub same : valueFrom 0 (run (drop at line)) ≡ valueFrom value (run (drop next line))
-  pub long : length (run (drop at line)) ≡ (next - at) + length (run (drop next line))
-
-pub progress-none : (line : List ℕ) (at : ℕ) → Progress line at 0 at
-progress-none line at =
-    let none : at - at ≡ 0 = omega arith in
-    record { from = omega arith; few = omega arith; small = rw none (omega arith); same = refl; long = omega arith }
-
--- the run at a place that a digit stands at, by the place after it
-next-run : (line : List ℕ) (next d : ℕ) → digitIn (drop next line) ≡ D.Of d → run (drop next line) ≡ (48 + d) ∷ run (drop (next + 1) line)
-next-run line next d e = run-more (drop next line) d e .more ∙ rw (drop-drop 1 next line)
-
-pub digit-inside : (line : List ℕ) (at d : ℕ) → digitIn (drop at line) ≡ D.Of d → at < length line
-digit-inside line at d e = omega (arith, length-drop at line, run-more (drop at line) d e .some)
-
-pub value-more : (v d : ℕ) (s : List ℕ) → valueFrom v ((48 + d) ∷ s) ≡ valueFrom (v * 10 + d) s
+value-more : (v d : ℕ) (s : List ℕ) → valueFrom v ((48 + d) ∷ s) ≡ valueFrom (v * 10 + d) s
 unfolding valueFrom
 value-more v d s =
     let this : 48 + d - 48 ≡ d = omega arith in
     ap (λ (x : ℕ). valueFrom (v * 10 + x) s) this
 
-pub progress-more : {line : List ℕ} {at value next : ℕ} (d : ℕ)
-    → Progress line at value next → digitIn (drop next line) ≡ D.Of d → (next - at ≡ 19 → ⊥) → Progress line at (value * 10 + d) (next + 1)
-progress-more {line} {at} {value} {next} d p e h =
-    let on : next + 1 - at ≡ suc (next - at) = omega arith in
-    let less : d < 10 = run-more (drop next line) d e .small in
+-- ---- digits at a place
+
+pub digit-here : (line : List ℕ) (at d : ℕ) → at < length line → d ≤ 9 → TellsDigit (getD line at 0) d → DigitsAt line at 1 d
+digit-here line at d inside small told =
+    let first : run (drop at line) ≡ (48 + d) ∷ run (drop (at + 1) line) =
+    rw (drop-cons line at 0 inside, told .digit small, add-one) (run-more (48 + d) _ (is-digit (48 + d) (omega arith) (omega arith)))
+    in
+    record { small = omega arith; value = λ v. rw first (value-more v d _); long = rw first (omega arith) }
+
+-- no digits, and then any
+pub no-digits : (line : List ℕ) (at : ℕ) → DigitsAt line at 0 0
+no-digits line at =
+    record { small = omega arith; value = λ v. rw (mul-one v, add-zero v, add-zero at); long = rw (add-zero at) (omega arith) }
+
+-- digits, and then more digits
+pub digits-then : {line : List ℕ} {at j v k w : ℕ} → DigitsAt line at j v → DigitsAt line (at + j) k w → DigitsAt line at (j + k) (v * 10 ^ k + w)
+digits-then {line} {at} {j} {v} {k} {w} p q =
+    let place : at + (j + k) ≡ at + j + k = omega arith in
+    let fits : (v + 1) * 10 ^ k ≤ 10 ^ j * 10 ^ k = mul-le-mul-right (10 ^ k) (omega arith) in
     record {
-      from = omega arith;
-      few = omega arith;
-      small = rw (on, pow-suc) (omega arith);
-      same = p .same ∙ rw (next-run line next d e) (value-more value d _);
-      long = p .long ∙ rw (next-run line next d e) (omega arith);
+      small = rw (pow-add 10 j k) (omega (arith, add-mul v 1 (10 ^ k)));
+      value = λ u.
+          p .value u
+          ∙ q .value (u * 10 ^ j + v)
+          ∙ rw (place, pow-add 10 j k, add-mul (u * 10 ^ j) v (10 ^ k), mul-assoc u (10 ^ j) (10 ^ k), add-assoc (u * (10 ^ j * 10 ^ k)) (v * 10 ^ k) w);
+      long = rw place (omega arith);
     }
 
--- what a digit at the next place tells: it lies within the line, the run is longer than what is read, and there is room for it in 64 bits
-pub record Step (line : List ℕ) (at value next d : ℕ) : Type 0 where
-  pub inside : next < length line
-  pub small : d < 10
-  pub longer : next - at < length (run (drop at line))
-  pub room : (next - at ≡ 19 → ⊥) → value < 10 ^ 18
+-- four digits, one after the other
+pub four-here : {line : List ℕ} {at a b c d n : ℕ}
+    → n ≡ ((a * 10 + b) * 10 + c) * 10 + d
+    → DigitsAt line at 1 a → DigitsAt line (at + 1) 1 b → DigitsAt line (at + 2) 1 c → DigitsAt line (at + 3) 1 d
+    → DigitsAt line at 4 n
+four-here e p q r s = rw e (digits-then (digits-then (digits-then p q) r) s)
 
-pub step : {line : List ℕ} {at value next : ℕ} (d : ℕ) → Progress line at value next → digitIn (drop next line) ≡ D.Of d → Step line at value next d
-step {line} {at} {value} {next} d p e =
-    let more : 0 < length (run (drop next line)) = rw (run-more (drop next line) d e .more) (omega arith) in
-    record {
-      inside = digit-inside line next d e;
-      small = run-more (drop next line) d e .small;
-      longer = omega arith;
-      room = λ h.
-          let few : next - at ≤ 18 = omega arith in
-          lt-of-lt-of-le (p .small) (pow-le-pow-right {n = 10} (omega arith) {i = next - at} {j = 18} few);
-    }
+-- ---- a run that is being read
+
+pub progress-none : (line : List ℕ) (at : ℕ) → Progress line at 0 at
+progress-none line at =
+    let none : at - at ≡ 0 = omega arith in
+    record { from = omega arith; within = omega arith; passed = rw none (no-digits line at) }
+
+pub progress-more : {line : List ℕ} {at value next k n : ℕ}
+    → Progress line at value next → DigitsAt line next k n → next + k ≤ digitsEnd (length line) at → Progress line at (value * 10 ^ k + n) (next + k)
+progress-more {line} {at} {value} {next} {k} {n} p d h =
+    let here : at + (next - at) ≡ next = omega arith in
+    let on : next + k - at ≡ (next - at) + k = omega arith in
+    record { from = omega arith; within = omega arith; passed = rw on (digits-then (p .passed) (rw here d)) }
+
+-- the number that is read so far leaves room for k more digits, of 19 in all
+pub room : {line : List ℕ} {at value next : ℕ} (k : ℕ) → Progress line at value next → next + k ≤ at + 19 → value < 10 ^ (19 - k)
+room {at = at} {next = next} k p h = lt-of-lt-of-le (p .passed .small) (pow-le-pow-right {n = 10} (omega arith) {i = next - at} {j = 19 - k} (omega arith))
 
 -- ---- the answer, by the length of the run and its first byte
-
-pub record Ended (line : List ℕ) (at value next : ℕ) : Type 0 where
-  pub value-is : valueFrom 0 (run (drop at line)) ≡ value
-  pub long-is : length (run (drop at line)) ≡ next - at
-
-pub ended : {line : List ℕ} {at value next : ℕ} → Progress line at value next → digitIn (drop next line) ≡ D.Other → Ended line at value next
-unfolding valueFrom
-ended {line} {at} {value} {next} p e =
-    let none : run (drop next line) ≡ [] = run-none (drop next line) e in
-    record { value-is = p .same ∙ rw none; long-is = p .long ∙ rw none (omega arith) }
 
 false-and : (t : Bool) → (t && false) ≡ false
 false-and true = refl
@@ -210,25 +176,46 @@ head (b ∷ s) h = go (isDigit b) h
 pub run-head : (line : List ℕ) (at : ℕ) → 0 < length (run (drop at line)) → getD (run (drop at line)) 0 0 ≡ getD line at 0
 run-head line at h = head (drop at line) h ∙ getD-drop at line 0 0 ∙ rw (add-zero at)
 
-run-within : (s : List ℕ) → length (run s) ≤ length s
-unfolding run
-run-within [] = omega arith
-run-within (b ∷ s) = go (isDigit b) (run-within s)
-  where
-    go : (t : Bool) → length (run s) ≤ length s → length (choose t (λ _. b ∷ run s) (λ _. [])) ≤ suc (length s)
-    go true h = omega arith
-    go false h = omega arith
+-- The answer where the digits up to a place are read, and they are all of the run or 19.
+module _ {line : List ℕ} {at value next : ℕ} (read : AllRead line at value next) where
+  here : at + (next - at) ≡ next
+  here = omega arith
 
-pub run-inside : (line : List ℕ) (at : ℕ) → 0 < length (run (drop at line)) → at < length line
-run-inside line at h = omega (arith, run-within (drop at line), length-drop at line)
+  longer : length (run (drop at line)) ≡ (next - at) + length (run (drop next line))
+  longer = rw here at (read .progress .passed .long)
 
-pub number-absent : (line : List ℕ) (at : ℕ) → wellFormed (run (drop at line)) ≡ false → numberAt line at ≡ N.Absent
-unfolding numberAt numberIn
-number-absent line at e = rw e
+  absent : wellFormed (run (drop at line)) ≡ false → numberAt line at ≡ N.Absent
+  unfolding numberAt numberIn
+  absent e = rw e
 
-pub number-is : {line : List ℕ} {at value next : ℕ}
-    → Progress line at value next → Ended line at value next → wellFormed (run (drop at line)) ≡ true → numberAt line at ≡ N.Of value next
-unfolding numberAt numberIn
-number-is {line} {at} {value} {next} p d e =
-    let place : at + (next - at) ≡ next = omega arith in
-    rw (e, d .value-is, d .long-is, place)
+  pub absent-zero : 1 < next - at → getD line at 0 ≡ 48 → numberAt line at ≡ N.Absent
+  absent-zero h z = absent (formed-not-zero _ (omega (arith, longer)) (run-head line at (omega (arith, longer)) ∙ z))
+
+  pub absent-long : next - at ≡ 19 → numeralEnds (drop next line) ≡ false → numberAt line at ≡ N.Absent
+  absent-long h e = absent (formed-not-long _ (omega (arith, longer, run-some (drop next line) e)))
+
+  -- the run ends at the place
+  module _ (ends : numeralEnds (drop next line) ≡ true) where
+    none : run (drop (at + (next - at)) line) ≡ []
+    none = rw here (run-none (drop next line) ends)
+
+    long-is : length (run (drop at line)) ≡ next - at
+    long-is = read .progress .passed .long ∙ rw none (omega arith)
+
+    value-is : valueFrom 0 (run (drop at line)) ≡ value
+    unfolding valueFrom
+    value-is = read .progress .passed .value 0 ∙ rw none (omega arith)
+
+    number : wellFormed (run (drop at line)) ≡ true → numberAt line at ≡ N.Of value next
+    unfolding numberAt numberIn
+    number e = rw (e, value-is, long-is, here)
+
+    pub number-more : 1 < next - at → (getD line at 0 ≡ 48 → ⊥) → numberAt line at ≡ N.Of value next
+    number-more h z =
+        number (formed-more _ (omega (arith, long-is)) (omega (arith, long-is)) (λ e. z (sym (run-head line at (omega (arith, long-is))) ∙ e)))
+
+  pub number-one : next - at ≡ 1 → numberAt line at ≡ N.Of value next
+  number-one h = let ends = read .last (omega arith) in number ends (formed-one _ (long-is ends ∙ h))
+
+  pub absent-none : next - at ≡ 0 → numberAt line at ≡ N.Absent
+  absent-none h = absent (formed-not-empty _ (long-is (read .last (omega arith)) ∙ h))

@@ -9,8 +9,6 @@ use lib.IntN.{ℤ, pos, negsuc, negℤ}
 use Rattle.text.specs.Words.{wordAt}
 use Rattle.text.specs.declared.words.Word.{Word}
 use Rattle.text.specs.declared.words.Word.the-variants.{After, Other}
-use Rattle.numeral.specs.declared.read.Digit.{Digit}
-use Rattle.numeral.specs.declared.read.Digit.the-variants as D
 use Rattle.numeral.specs.declared.read.Number.{Number}
 use Rattle.numeral.specs.declared.read.Number.the-variants as N
 use Rattle.numeral.specs.declared.read.Signed.{Signed}
@@ -28,11 +26,6 @@ goesOn b = isDigit b
 abbrev pub numeralEnds : List ℕ → Bool
 numeralEnds [] = true
 numeralEnds (b ∷ s) = not (goesOn b)
-
--- The digit that the bytes begin with.
-unfoldable pub digitIn : List ℕ → Digit
-digitIn [] = D.Other
-digitIn (b ∷ s) = choose (isDigit b) (λ _. D.Of (b - 48)) (λ _. D.Other)
 
 -- The digits that the bytes begin with, all of them up to the first other byte.
 unfoldable pub run : List ℕ → List ℕ

@@ -2,14 +2,10 @@
 use text::words::Word;
 use text::words::word_at;
 ghost use mathlib.Core.Path.{_≡_};
-ghost use lib.ListN.{drop};
-ghost use Rattle.numeral.specs.Reading.{digitIn, numberAt, signedAt};
-
-// A digit's value, or another byte, or the end of the line.
-enum Digit {
-    Of(u64),
-    Other,
-}
+ghost use Prim.Native.Nat.{_+_, _≤_};
+ghost use lib.ListN.{length, drop};
+ghost use Rattle.numeral.specs.Progress.{TellsDigit, digitsEnd, DigitsAt, Progress, AllRead};
+ghost use Rattle.numeral.specs.Reading.{numeralEnds, numberAt, signedAt};
 
 // A numeral's number with the place after it, or that no numeral begins at the place.
 pub enum Number {
@@ -27,48 +23,123 @@ pub enum Signed {
     Absent,
 }
 
-fn digit_at(line: &[u8], at: usize) -> Digit
-    ensures { λ r. ⌜ r ≡ digitIn (drop at (now (line .entry))) ⌝ }
+// The byte less 48, modulo 2^64: the number of a digit, and above 9 for any other byte, so that one comparison tells a digit.
+fn digit(b: u8) -> u64
+    ensures { λ r. ⌜ TellsDigit b r ⌝ }
 {
-    if line.len() <= at {
-        return Digit::Other;
-    }
-    let b = line[at];
-    if b < 48 {
-        return Digit::Other;
-    }
-    if 57 < b {
-        return Digit::Other;
-    }
-    Digit::Of((b - 48) as u64)
+    std::num::wrapping_sub_u64(b as u64, 48)
 }
 
-// Nineteen digits fit a u64; a twentieth ends the reading before it is added.
-pub fn read_number(line: &[u8], at: usize) -> Number
+// The place up to which digits are read: the end of the line, or nineteen bytes on. Nineteen digits fit a u64.
+fn digits_end(length: usize, at: usize) -> usize
+    ensures { λ r. ⌜ r ≡ digitsEnd length at ⌝ }
+{
+    if length < at {
+        return at;
+    }
+    if length - at < 19 {
+        return length;
+    }
+    at + 19
+}
+
+// At a place stands no digit, or the line has ended.
+fn numeral_ends(line: &[u8], at: usize) -> bool
+    ensures { λ r. ⌜ r ≡ numeralEnds (drop at (now (line .entry))) ⌝ }
+{
+    if line.len() <= at {
+        return true;
+    }
+    9 < digit(line[at])
+}
+
+// The answer where the digits up to a place are read, all that there are or nineteen. A twentieth digit, a 0 before others, or no digit at
+// all is no numeral.
+fn finished(line: &[u8], at: usize, value: u64, next: usize) -> Number
+    requires { ⌜ AllRead (now line) at value next ⌝ }
     ensures { λ r. ⌜ r ≡ numberAt (now (line .entry)) at ⌝ }
 {
-    let mut value: u64 = 0;
-    let mut next = at;
-    loop {
-        let Digit::Of(d) = digit_at(line, next) else {
-            break;
-        };
-        if next - at == 19 {
+    let count = next - at;
+    if count <= 1 {
+        if count == 0 {
             return Number::Absent;
         }
-        value = value * 10 + d;
-        next += 1;
+        return Number::Of(value, next);
     }
-    let count = next - at;
-    if count == 0 {
+    if line[at] == b'0' {
         return Number::Absent;
     }
-    if 1 < count {
-        if line[at] == b'0' {
+    if count == 19 {
+        if !numeral_ends(line, next) {
             return Number::Absent;
         }
     }
     Number::Of(value, next)
+}
+
+// Reads on from a place up to which digits are read, a digit a turn.
+fn read_on(line: &[u8], at: usize, mut value: u64, mut next: usize, end: usize) -> Number
+    requires { ⌜ Progress (now line) at value next × (end ≡ digitsEnd (length (now line)) at) ⌝ }
+    ensures { λ r. ⌜ r ≡ numberAt (now (line .entry)) at ⌝ }
+{
+    while next < end {
+        let d = digit(line[next]);
+        if 9 < d {
+            break;
+        }
+        value = value * 10 + d;
+        next += 1;
+    }
+    finished(line, at, value, next)
+}
+
+pub fn read_number(line: &[u8], at: usize) -> Number
+    ensures { λ r. ⌜ r ≡ numberAt (now (line .entry)) at ⌝ }
+{
+    read_on(line, at, 0, at, digits_end(line.len(), at))
+}
+
+// The number of the four digits at a place, or a number above 9999 if one of the four bytes is no digit. Such a number promises nothing:
+// the bytes are read again, one by one.
+fn four_digits(line: &[u8], at: usize) -> u64
+    requires { ⌜ at + 4 ≤ length (now line) ⌝ }
+    ensures { λ r. ⌜ (r ≤ 9999 → DigitsAt (now (line .entry)) at 4 r) ⌝ }
+{
+    let a = digit(line[at]);
+    let b = digit(line[at + 1]);
+    let c = digit(line[at + 2]);
+    let d = digit(line[at + 3]);
+    if 9 < a {
+        return 10000;
+    }
+    if 9 < b {
+        return 10000;
+    }
+    if 9 < c {
+        return 10000;
+    }
+    if 9 < d {
+        return 10000;
+    }
+    a * 1000 + b * 100 + c * 10 + d
+}
+
+// As `read_number`, in fewer steps where the numeral is long: four digits a turn as long as four bytes are left.
+fn read_long(line: &[u8], at: usize) -> Number
+    ensures { λ r. ⌜ r ≡ numberAt (now (line .entry)) at ⌝ }
+{
+    let end = digits_end(line.len(), at);
+    let mut value: u64 = 0;
+    let mut next = at;
+    while 4 <= end - next {
+        let four = four_digits(line, next);
+        if 9999 < four {
+            break;
+        }
+        value = value * 10000 + four;
+        next += 4;
+    }
+    read_on(line, at, value, next, end)
 }
 
 // -0 is no numeral.
@@ -76,7 +147,7 @@ pub fn read_signed(line: &[u8], at: usize) -> Signed
     ensures { λ r. ⌜ r ≡ signedAt (now (line .entry)) at ⌝ }
 {
     let Word::After(first) = word_at(line, at, b"-") else {
-        let Number::Of(magnitude, next) = read_number(line, at) else {
+        let Number::Of(magnitude, next) = read_long(line, at) else {
             return Signed::Absent;
         };
         return Signed::Of {
@@ -85,7 +156,7 @@ pub fn read_signed(line: &[u8], at: usize) -> Signed
             next,
         };
     };
-    let Number::Of(magnitude, next) = read_number(line, first) else {
+    let Number::Of(magnitude, next) = read_long(line, first) else {
         return Signed::Absent;
     };
     if magnitude == 0 {

@@ -1,10 +1,15 @@
 -- `boardtime_lib::boardtime_pass` meets its contract: ticks above the limit are refused before they are cut to 32 bits; else the keeper of the
--- image, the pass of it lent, and the image of the keeper that came back.
-use mathlib.Core.Path.{refl, sym, _∙_}
+-- image, the pass of it lent, and of the keeper that came back what a pass changes.
+use mathlib.Core.Path.{_≡_, refl, sym, _∙_, subst}
 use native.Mathlib.Omega.{arith}
 use borrow.Author.Tests.{not-true, not-false, eqb-true, eqb-false}
+use lib.ListN.{length}
+use Rattle.keeper.specs.declared.Keeper.{Keeper}
 use Rattle.command.proofs.LimitLaws.{ticks-bound}
-use Rattle.boardtime_lib.proofs.ImageLaws.{pass-refused, pass-too-long, pass-moved, left-refused, left-stored}
+use Rattle.image.specs.Layout.{keeperIn}
+use Rattle.image.proofs.StartedFits.{all-below}
+use Rattle.boardtime_lib.proofs.ImageLaws.{pass-refused, pass-too-long, pass-moved, left-refused}
+use Rattle.boardtime_lib.proofs.ApplyLaws.{pass-kept}
 use borrow.Author.Needs.{needs}
 use Rattle.boardtime_lib.proofs.boardtime_pass.Statement.{statement}
 use Rattle.boardtime_lib.proofs.boardtime_pass.Tie as tie
@@ -46,16 +51,22 @@ returns-3 c =
     let whole = eqb-true _ _ (sym (c .before .before .before .before .before .before .before .before .is-image .ensures) ∙ not-false _ (c .before .before .before .before .before .before .before .if1 .left)) in
     pass-moved _ whole (c .before .before .before .load .ensures) (c .before .before .pass .ensures) refl (left-refused _ whole _ _ (c .if3 .taken))
 
-store-requires : tie.Need-store-requires
-store-requires c κs = search needs
+store-passed-requires : tie.Need-store-passed-requires
+store-passed-requires c κs = search needs
 
 same-length-4 : tie.Need-same-length-4
 same-length-4 c = search needs
 
 returns-4 : tie.Need-returns-4
 returns-4 c =
-    let whole = eqb-true _ _ (sym (c .before .before .before .before .before .before .before .before .before .before .before .before .is-image .ensures) ∙ not-false _ (c .before .before .before .before .before .before .before .before .before .before .before .if1 .left)) in
-    pass-moved _ whole (c .before .before .before .before .before .before .before .load .ensures) (c .before .before .before .before .before .before .pass .ensures) (sym (c .before .before .before .before .if3 .left)) (left-stored _ whole _ _ refl (c .before .before .store .ensures))
+    let image = c .before .before .before .before .before .before .before .before .before .before .before .before .before .before .before .before .args .image .now in
+    let whole = eqb-true _ _ (sym (c .before .before .before .before .before .before .before .before .before .before .before .before .before .is-image .ensures) ∙ not-false _ (c .before .before .before .before .before .before .before .before .before .before .before .before .if1 .left)) in
+    let loaded : c .before .before .before .before .before .before .before .before .load .result ≡ keeperIn image = c .before .before .before .before .before .before .before .before .load .ensures in
+    pass-moved _ whole loaded (c .before .before .before .before .before .before .before .pass .ensures) (sym (c .before .before .before .before .before .if3 .left))
+    (pass-kept image whole (all-below 256 image (λ i h. omega (arith, c .before .before .before .before .before .before .before .before .before .before .before .before .before .before .before .slice-known .given i)))
+    (subst (λ (k : Keeper). length (k .tags) ≡ 16) loaded (search needs))
+    (subst (λ (k : Keeper). length (k .«sent_at») ≡ 16) loaded (search needs))
+    loaded (c .before .before .before .before .before .before .before .pass .ensures) (c .before .before .before .before .before .if3 .left) (c .before .before .store-passed .ensures))
 
 pub boardtime-pass-spec : {M : Type 1} → statement M
 boardtime-pass-spec =
@@ -72,6 +83,6 @@ boardtime-pass-spec =
     pass-requires
     same-length-3
     returns-3
-    store-requires
+    store-passed-requires
     same-length-4
     returns-4)

@@ -1,0 +1,33 @@
+-- A run of digits that is being read from its first digit on.
+use mathlib.Core.Path.{_≡_}
+use mathlib.Core.Bool.{true, false}
+use mathlib.Core.List.{List}
+use Prim.Native.Nat.{ℕ, _+_, _-_, _*_, _^_, min, _<_, _≤_}
+use lib.ListN.{length, drop}
+use Rattle.numeral.specs.Reading.{isDigit, numeralEnds, run, valueFrom}
+
+-- Whether d is at most 9 tells whether the byte is a digit, and if so it is the digit d.
+pub record TellsDigit (b d : ℕ) : Type 0 where
+  pub digit : d ≤ 9 → b ≡ 48 + d
+  pub other : 9 < d → isDigit b ≡ false
+
+-- The place up to which digits are read, in a line of a length: 19 bytes on, or the end of the line if that comes first.
+abbrev pub digitsEnd : ℕ → ℕ → ℕ
+digitsEnd long at = at + min (long - at) 19
+
+-- `count` digits stand at the place, and n is their number: the run at the place is those digits and the run after them.
+pub record DigitsAt (line : List ℕ) (at count n : ℕ) : Type 0 where
+  pub small : n < 10 ^ count
+  pub value : (v : ℕ) → valueFrom v (run (drop at line)) ≡ valueFrom (v * 10 ^ count + n) (run (drop (at + count) line))
+  pub long : length (run (drop at line)) ≡ count + length (run (drop (at + count) line))
+
+-- From the place `at`, the digits up to the place `next` are read, and `value` is their number.
+pub record Progress (line : List ℕ) (at value next : ℕ) : Type 0 where
+  pub from : at ≤ next
+  pub within : next ≤ digitsEnd (length line) at
+  pub passed : DigitsAt line at (next - at) value
+
+-- Likewise, and they are all the digits of the run, or 19 of them.
+pub record AllRead (line : List ℕ) (at value next : ℕ) : Type 0 where
+  pub progress : Progress line at value next
+  pub last : next < at + 19 → numeralEnds (drop next line) ≡ true
