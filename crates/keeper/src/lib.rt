@@ -10,8 +10,8 @@ mod started;
 mod steps;
 
 // Of each other board (a peer, 0..15): its bit of `waiting` is set while a request to it waits, with the request's tag and the tick
-// count when it was sent; a peer with none waiting holds 0 for both. The order of the fields leaves no gap before an array: with a gap,
-// the compiler makes each copy of a keeper by a call of memcpy.
+// count when it was sent; a peer with none waiting holds 0 for both. The order of the fields is the one with which the compiler copies
+// least: the arrays are one block, and the small fields stand where they are kept in registers of their own (docs/DECISIONS.md 27).
 pub struct Keeper {
     pub sent_at: [u64; 16],
     pub tags: [u32; 16],
