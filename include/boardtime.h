@@ -7,9 +7,10 @@
  * header stops the compiler.
  *
  * The keeper is an image: an array of 232 bytes that the caller owns. A call
- * reads the image and answers; an accepted one stores the image of the keeper
- * after it, and a refused one leaves every byte as it was. The library holds
- * nothing between calls, allocates nothing and calls nothing but memcpy.
+ * reads the image and answers; an accepted one makes it the image of the keeper
+ * after it, by storing what the command changed: nothing for a read or a list
+ * of the waiting peers. A refused one leaves every byte as it was. The library
+ * holds nothing between calls, allocates nothing and calls nothing but memcpy.
  *
  * What the caller owes:
  *   - every pointer is valid for the length that is passed with it, and is not
