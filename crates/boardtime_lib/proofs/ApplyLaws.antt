@@ -3,10 +3,11 @@
 use mathlib.Core.Path.{_≡_, refl, sym, ap, _∙_}
 use mathlib.Core.Bool.{Bool, true, false}
 use mathlib.Core.List.{List}
-use Prim.Native.Nat.{ℕ}
+use Prim.Native.Nat.{ℕ, _≤_}
 use lib.ListN.{length}
 use Rattle.bits.specs.Choice.{choose}
 use Rattle.bits.proofs.Tests.{clash}
+use Rattle.moment.specs.declared.Interval.{Interval}
 use Rattle.rules.specs.Verdict.{conflictsAfter}
 use Rattle.command.specs.declared.Command.{Command}
 use Rattle.command.specs.declared.Command.the-variants as C
@@ -45,35 +46,31 @@ module _
     image-is : countsAsStarted (keeperIn image) ≡ true → image ≡ imageOf (keeperIn image)
     image-is e = sym (read-is-image image bytes (readable-is image e))
 
+    -- a store that makes the image of the keeper before into that of the keeper after makes the image so
+    stored-into : {l next : Keeper} → Moved (keeperIn image) l next → (store : List ℕ → List ℕ) → store (imageOf (keeperIn image)) ≡ imageOf next → store image ≡ imageOf l
+    stored-into m store e = ap store (image-is (m .started)) ∙ e ∙ ap imageOf (sym (m .next-is))
+
     pass-left : (l : Keeper) → Moved (keeperIn image) l (passedTo (keeperIn image) (l .edges) (l .ticks)) → passedImage image (l .edges) (l .ticks) ≡ imageOf l
-    pass-left l m =
-        ap (λ (i : List ℕ). passedImage i (l .edges) (l .ticks)) (image-is (m .started))
-        ∙ passed-image (keeperIn image) tags sent (l .edges) (l .ticks)
-        ∙ ap imageOf (sym (m .next-is))
+    pass-left l m = stored-into m (λ i. passedImage i (l .edges) (l .ticks)) (passed-image (keeperIn image) tags sent (l .edges) (l .ticks))
+
+    ended-left : (l : Keeper) (peer : ℕ) (edges : Interval) (conflicts : ℕ) → peer ≤ 15 → Moved (keeperIn image) l (ended (keeperIn image) peer edges conflicts)
+        → endedImage image (l .waiting) (l .edges) (l .conflicts) peer ≡ imageOf l
+    unfolding ended changed
+    ended-left l peer edges conflicts small m =
+        stored-into m (λ i. endedImage i (l .waiting) (l .edges) (l .conflicts) peer)
+        (rw (m .next-is) (ended-image (keeperIn image) tags sent peer edges conflicts small))
 
     stored-left : (a : Answer) (l : Keeper) → Changed a (keeperIn image) l → storedAfter a l image ≡ imageLeft image (numberOf a) l
-    unfolding imageLeft passedTo asked ended changed
+    unfolding imageLeft passedTo asked changed
     stored-left (A.Started board) l h = store-whole image whole l refl
     stored-left (A.At ticks edges) l m =
-        rw (m .next-is)
-        (ap (λ (i : List ℕ). passedImage i edges ticks) (image-is (m .started)) ∙ passed-image (keeperIn image) tags sent edges ticks)
+        stored-into m (λ i. passedImage i (l .edges) (l .ticks)) (rw (m .next-is) (passed-image (keeperIn image) tags sent edges ticks))
     stored-left (A.Sent peer tag) l (small, m) =
-        let k = keeperIn image in
-        rw (m .next-is)
-        (ap (λ (i : List ℕ). askedImage i (asked k peer .waiting) (asked k peer .requests) peer (k .ticks)) (image-is (m .started)) ∙ asked-image k tags sent peer small)
-    stored-left (A.Replied peer v) l (small, m) =
-        let k = keeperIn image in
-        let conflicts = conflictsAfter (k .conflicts) (v .finding) in
-        rw (m .next-is)
-        (ap (λ (i : List ℕ). endedImage i (ended k peer (v .edges) conflicts .waiting) (v .edges) conflicts peer) (image-is (m .started))
-        ∙ ended-image k tags sent peer (v .edges) conflicts small)
-    stored-left (A.Dropped peer) l (small, m) =
-        let k = keeperIn image in
-        rw (m .next-is)
-        (ap (λ (i : List ℕ). endedImage i (ended k peer (k .edges) (k .conflicts) .waiting) (k .edges) (k .conflicts) peer) (image-is (m .started))
-        ∙ ended-image k tags sent peer (k .edges) (k .conflicts) small)
-    stored-left (A.Time edges centre error conflicts waiting) l m = image-is (m .started) ∙ ap imageOf (sym (m .next-is))
-    stored-left A.Waiting l m = image-is (m .started) ∙ ap imageOf (sym (m .next-is))
+        stored-into m (λ i. askedImage i (l .waiting) (l .requests) peer (l .ticks)) (rw (m .next-is) (asked-image (keeperIn image) tags sent peer small))
+    stored-left (A.Replied peer v) l (small, m) = ended-left l peer (v .edges) (conflictsAfter (keeperIn image .conflicts) (v .finding)) small m
+    stored-left (A.Dropped peer) l (small, m) = ended-left l peer (keeperIn image .edges) (keeperIn image .conflicts) small m
+    stored-left (A.Time edges centre error conflicts waiting) l m = stored-into m (λ i. i) refl
+    stored-left A.Waiting l m = stored-into m (λ i. i) refl
     stored-left (A.Refused n) l (some, same) = left-refused image whole n l some
 
     pub command-stored : (c : Command) → let o = apply (keeperIn image) c in storedAfter (o .answer) (o .keeper) image ≡ imageLeft image (numberOf (o .answer)) (o .keeper)

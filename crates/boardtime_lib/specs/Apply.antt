@@ -23,7 +23,8 @@ storedAfter (A.Time edges centre error conflicts waiting) k image = image
 storedAfter A.Waiting k image = image
 storedAfter (A.Refused n) k image = image
 
--- A command on the keeper that stands in the image: its answer is written, and the image is that of the keeper which it gives.
+-- A command on the keeper that stands in the image: its answer is written, and the image becomes that of the keeper which it gives; a refused
+-- one leaves every byte of it as it was.
 pub record CommandImage (image : List ℕ) (c : Command) (out : List ℕ) (r : ℕ) (image′ out′ : List ℕ) : Type 0 where
   pub written : ℕ
   pub wrote : Wrote (apply (keeperIn image) c .answer) (apply (keeperIn image) c .keeper) out out′ written

@@ -1,4 +1,4 @@
-// A command on the keeper of an image: loaded once, tested, and of what it holds only that stored which the command changed.
+// A command on the keeper of an image. The image is loaded once, and only what the command changed is stored into it.
 use changes::store_asked;
 use changes::store_ended;
 use changes::store_passed;
@@ -52,6 +52,7 @@ fn store_changes(image: &mut [u8], answer: Answer, keeper: Keeper)
     }
 }
 
+// Applies the command to the keeper in the image, writes its answer to the output, and gives what the call returns.
 pub(crate) fn answer_command(image: &mut [u8], command: Command, out: &mut [u8]) -> u32
     requires { ⌜ length (now image) ≡ imageLength ⌝ }
     requires { ⌜ leastOutput ≤ length (now out) ⌝ }

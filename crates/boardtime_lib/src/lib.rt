@@ -22,10 +22,11 @@ ghost use Rattle.boardtime_lib.specs.Images.{FreshImage, LineImage, Pass
 // Returned for a buffer that has not the length of an image. No refusal of document 01 or 02 has this number.
 pub const WRONG_LENGTH: u8 = 255;
 
-// Document 01's number for a number outside its limits.
+// Document 01's numbers: for a line that is no command shape, for a number outside its limits, and for an output that is too short.
+const NO_SHAPE: u8 = 1;
+
 const OUTSIDE_LIMITS: u8 = 2;
 
-// Document 01's number for an output that is too short.
 const NO_ROOM: u8 = 10;
 
 // Stores the image of a fresh keeper.
@@ -41,7 +42,7 @@ pub extern "C" fn boardtime_fresh(image: &mut [u8]) -> u8
 }
 
 // Answers a line. The number is the result's lowest byte, and the length written the bytes above it. A refused call leaves the image as
-// it was, to the byte, also one that can't be read. The line is read first: one that is no command is answered without a look at the image.
+// it was, to the byte, also an image that can't be read. The line is read first: if it is no command, the image is not looked at.
 #[no_mangle]
 pub extern "C" fn boardtime_line(image: &mut [u8], line: &[u8], out: &mut [u8]) -> u32
     ensures { λ r. ⌜ LineImage (now (image .entry)) (now (line .entry)) (now (out .entry)) r (now (image .exit)) (now (out .exit)) ⌝ }
@@ -55,8 +56,8 @@ pub extern "C" fn boardtime_line(image: &mut [u8], line: &[u8], out: &mut [u8]) 
     let reading = read_command(line);
     match reading {
         Reading::Accepted(command) => answer_command(image, command, out),
-        Reading::NoShape => returned(1, write_refusal(out, 1)),
-        Reading::OutsideLimits => returned(2, write_refusal(out, 2)),
+        Reading::NoShape => returned(NO_SHAPE, write_refusal(out, NO_SHAPE)),
+        Reading::OutsideLimits => returned(OUTSIDE_LIMITS, write_refusal(out, OUTSIDE_LIMITS)),
     }
 }
 

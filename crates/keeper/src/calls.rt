@@ -1,6 +1,6 @@
 // The calls, by value: each takes a keeper and hands it back with its answer. The causes of a refusal are tried in document 01's order.
-// Each asks its caller for `started`, whether the keeper counts as started: who was handed a keeper tests it, and who makes one call after the
-// other on a keeper of its own knows it without a test.
+// Each asks its caller for `started`, whether the keeper counts as started. Of a keeper that is handed in `apply_tested` and `pass_tested` find it
+// out by the test; who makes one call after the other on a keeper of its own knows it without one.
 use crate::Answer;
 use crate::Keeper;
 use crate::Outcome;
@@ -54,7 +54,14 @@ impl Keeper {
     }
 
     // A keeper that was handed in and does not count as started may be started.
-    pub fn start(self, started: bool, board: u8, rule: Rule, claim: u16, edges: Interval) -> Outcome
+    pub(crate) fn start(
+        self,
+        started: bool,
+        board: u8,
+        rule: Rule,
+        claim: u16,
+        edges: Interval,
+    ) -> Outcome
         requires { ⌜ started ≡ countsAsStarted self ⌝ }
         ensures { λ r. ⌜ r ≡ apply self (C.Start board rule claim edges) ⌝ }
     {
@@ -71,7 +78,7 @@ impl Keeper {
     }
 
     // Refusal 5 is for an edge that would leave the range, and for ticks that would pass their most.
-    pub fn pass(self, started: bool, ticks: u32) -> Outcome
+    pub(crate) fn pass(self, started: bool, ticks: u32) -> Outcome
         requires { ⌜ started ≡ countsAsStarted self ⌝ }
         ensures { λ r. ⌜ r ≡ apply self (C.Pass ticks) ⌝ }
     {
@@ -103,7 +110,7 @@ impl Keeper {
     }
 
     // The tag is the number of requests sent so far, counting this one, so no two requests share a tag.
-    pub fn request(self, started: bool, peer: u8) -> Outcome
+    pub(crate) fn request(self, started: bool, peer: u8) -> Outcome
         requires { ⌜ started ≡ countsAsStarted self ⌝ }
         ensures { λ r. ⌜ r ≡ apply self (C.Request peer) ⌝ }
     {
@@ -119,7 +126,7 @@ impl Keeper {
     }
 
     // A reply without its request, or with another tag, is refused before its edges are held against the keeper's.
-    pub fn reply(self, started: bool, peer: u8, tag: u32, edges: Interval) -> Outcome
+    pub(crate) fn reply(self, started: bool, peer: u8, tag: u32, edges: Interval) -> Outcome
         requires { ⌜ started ≡ countsAsStarted self ⌝ }
         ensures { λ r. ⌜ r ≡ apply self (C.Reply peer tag edges) ⌝ }
     {
@@ -140,7 +147,7 @@ impl Keeper {
     }
 
     // Gives a request up: a late reply to it finds no request, or one with another tag.
-    pub fn drop(self, started: bool, peer: u8) -> Outcome
+    pub(crate) fn drop(self, started: bool, peer: u8) -> Outcome
         requires { ⌜ started ≡ countsAsStarted self ⌝ }
         ensures { λ r. ⌜ r ≡ apply self (C.Drop peer) ⌝ }
     {
@@ -155,7 +162,7 @@ impl Keeper {
     }
 
     // Nothing changes. The edges of a keeper that counts as started are in the range, so their sum fits.
-    pub fn read(self, started: bool) -> Outcome
+    pub(crate) fn read(self, started: bool) -> Outcome
         requires { ⌜ started ≡ countsAsStarted self ⌝ }
         ensures { λ r. ⌜ r ≡ apply self C.Read ⌝ }
     {
@@ -176,7 +183,7 @@ impl Keeper {
     }
 
     // Nothing changes: the waiting peers and their tags are read from the keeper that is handed back.
-    pub fn waiting(self, started: bool) -> Outcome
+    pub(crate) fn waiting(self, started: bool) -> Outcome
         requires { ⌜ started ≡ countsAsStarted self ⌝ }
         ensures { λ r. ⌜ r ≡ apply self C.Waiting ⌝ }
     {
@@ -209,4 +216,12 @@ pub fn apply_command(keeper: Keeper, started: bool, command: Command) -> Outcome
         Command::Read => keeper.read(started),
         Command::Waiting => keeper.waiting(started),
     }
+}
+
+// The same of a keeper that is handed in, which is tested first.
+pub fn apply_tested(keeper: Keeper, command: Command) -> Outcome
+    ensures { λ r. ⌜ r ≡ apply keeper command ⌝ }
+{
+    let started = keeper.counts_as_started();
+    apply_command(keeper, started, command)
 }

@@ -5,7 +5,7 @@ use command::Reading;
 use keeper::Answer;
 use keeper::Keeper;
 use keeper::Outcome;
-use keeper::calls::apply_command;
+use keeper::calls::apply_tested;
 use keeper::number::number_of;
 use reader::read_command;
 ghost use mathlib.Core.Path.{_≡_};
@@ -34,10 +34,7 @@ fn answer_to(keeper: Keeper, line: &[u8]) -> Outcome
 {
     let reading = read_command(line);
     match reading {
-        Reading::Accepted(c) => {
-            let started = keeper.counts_as_started();
-            apply_command(keeper, started, c)
-        }
+        Reading::Accepted(c) => apply_tested(keeper, c),
         Reading::NoShape => Outcome {
             answer: Answer::Refused(1),
             keeper,
@@ -65,7 +62,8 @@ pub fn write_refusal(out: &mut [u8], n: u8) -> usize
     put_refusal(out, 0, n)
 }
 
-// Refusal 10 comes before anything else is looked at, and touches no byte.
+// The whole call, for who holds a keeper by value. The program and the library make its steps themselves, so that no response with a keeper in it
+// is copied. Refusal 10 comes before anything else is looked at, and touches no byte.
 pub fn call(keeper: Keeper, line: &[u8], out: &mut [u8]) -> Response
     ensures { λ r. ⌜ Called keeper (now (line .entry)) (now (out .entry)) (r .number) (r .keeper) (now (out .exit)) (r .length) ⌝ }
 {

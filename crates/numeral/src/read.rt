@@ -93,6 +93,7 @@ fn read_on(line: &[u8], at: usize, mut value: u64, mut next: usize, end: usize) 
     finished(line, at, value, next)
 }
 
+// The numeral at a place. Nineteen digits fit a u64; with a twentieth it is none.
 pub fn read_number(line: &[u8], at: usize) -> Number
     ensures { λ r. ⌜ r ≡ numberAt (now (line .entry)) at ⌝ }
 {

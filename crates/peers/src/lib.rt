@@ -23,7 +23,7 @@ fn waiter_kept(requests: u32, ticks: u64, tag: u32, sent: u64) -> bool
     sent <= ticks
 }
 
-// Another peer holds 0 for both. Both are tested at once, by their bits: each call asks this of up to sixteen peers.
+// Another peer holds 0 for both. Both are tested at once, by their bits: the test of a keeper asks this of up to fifteen peers.
 fn idle_kept(tag: u32, sent: u64) -> bool
     ensures { λ r. ⌜ r ≡ idleKept tag sent ⌝ }
 {

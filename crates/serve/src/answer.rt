@@ -22,7 +22,7 @@ pub struct Lines {
 
 // Answers every whole line from a place on, while the output has room for one more answer. The keeper is tested once: after an accepted line
 // it counts as started, and a refused line leaves it as it was. It is put back only after a command, and each function on the way of a line is
-// called in one place, so that the compiler makes it a part of the loop.
+// called in one place, so that the compiler makes it a part of the loop. A line is refused with 1 unless it is read as something else.
 pub fn answer_lines(keeper: Keeper, bytes: &[u8], from: usize, out: &mut [u8]) -> Lines
     ensures { λ r. ⌜ LinesAnswered keeper (drop from (now (bytes .entry))) (now (out .entry)) (r .keeper) (drop (r .from) (now (bytes .entry))) (r .filled) (r .full) (now (out .exit)) ⌝ }
 {

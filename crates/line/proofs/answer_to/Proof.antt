@@ -11,11 +11,8 @@ read-command-requires c κs = search needs
 enum-known-reading : tie.Need-enum-known-reading
 enum-known-reading c = search needs
 
-counts-as-started-requires : tie.Need-counts-as-started-requires
-counts-as-started-requires c κs = search needs
-
-apply-command-requires : tie.Need-apply-command-requires
-apply-command-requires c κs = c .counts-as-started .ensures
+apply-tested-requires : tie.Need-apply-tested-requires
+apply-tested-requires c κs = search needs
 
 enum-told : tie.Need-enum-told
 enum-told c = search needs
@@ -25,7 +22,7 @@ enum-told-2 c = search needs
 
 returns : tie.Need-returns
 unfolding answered
-returns c = rw (sym (c .before .before .before .before .before .read-command .ensures) ∙ c .before .before .before .reading .given .1) (c .apply-command .ensures)
+returns c = rw (sym (c .before .before .before .before .read-command .ensures) ∙ c .before .before .reading .given .1) (c .apply-tested .ensures)
 
 returns-2 : tie.Need-returns-2
 unfolding answered
@@ -41,8 +38,7 @@ answer-to-spec =
     (tie.spec
     read-command-requires
     enum-known-reading
-    counts-as-started-requires
-    apply-command-requires
+    apply-tested-requires
     enum-told
     enum-told-2
     returns
