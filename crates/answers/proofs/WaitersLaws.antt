@@ -11,12 +11,12 @@ use lib.ListN.{length, getD, length-append}
 use Rattle.bits.specs.Bits.{bitOf}
 use Rattle.bits.specs.Below.{one}
 use Rattle.numeral.proofs.Digits.{digits-most}
-use Rattle.writing.specs.Puts.{Puts}
+use Rattle.writing.specs.Puts.{Puts, leastOutput}
 use Rattle.writing.proofs.PutsLaws.{_then_}
 use Rattle.keeper.specs.State.{mostRequests, countsAsStarted}
 use Rattle.keeper.specs.declared.Keeper.{Keeper}
 use Rattle.keeper.proofs.StartedLaws.{started-read}
-use Rattle.answers.specs.Answers.{leastOutput, waitingPeers, waitingLine, times, EachOnce}
+use Rattle.answers.specs.Answers.{waitingPeers, waitingLine, times, EachOnce}
 use Rattle.answers.specs.Writing.{peerTag, waitersBelow}
 
 -- ---- one more

@@ -17,10 +17,6 @@ use Rattle.keeper.specs.declared.Keeper.{Keeper}
 use Rattle.keeper.specs.declared.Answer.{Answer}
 use Rattle.keeper.specs.declared.Answer.the-variants as A
 
--- 'lent output under 256 bytes' is refused: the line of every answer and its LF have room in this many.
-abbrev pub leastOutput : ℕ
-leastOutput = 256
-
 -- '(WORD N (LOWER UPPER))', where `word` is the bracket, the word and a space
 unfoldable pub edgesLine : List ℕ → ℕ → Interval → List ℕ
 edgesLine word n edges = word ++ digits n ++ bytes " " ++ pair (edges .lower) (edges .upper) ++ bytes ")"

@@ -8,12 +8,12 @@ use Rattle.bits.specs.Choice.{choose}
 use Rattle.bits.specs.Bits.{bitOf}
 use Rattle.text.specs.Words.{bytes}
 use Rattle.numeral.specs.Digits.{digits}
-use Rattle.writing.specs.Puts.{Puts}
+use Rattle.writing.specs.Puts.{Puts, leastOutput}
 use Rattle.keeper.specs.State.{countsAsStarted}
 use Rattle.keeper.specs.declared.Answer.{Answer}
 use Rattle.keeper.specs.declared.Answer.the-variants as A
 use Rattle.keeper.specs.declared.Keeper.{Keeper}
-use Rattle.answers.specs.Answers.{leastOutput, IsLine}
+use Rattle.answers.specs.Answers.{IsLine}
 
 -- 'each line written ends in LF' (byte 10)
 abbrev pub lineEnd : List ℕ

@@ -21,7 +21,7 @@ use Rattle.keeper.proofs.CallLaws.{apply-refused}
 use Rattle.keeper.specs.declared.Keeper.{Keeper}
 use Rattle.keeper.specs.declared.Outcome.{Outcome}
 use Rattle.lent.specs.Lent.{PassLent}
-use Rattle.answers.specs.Answers.{leastOutput}
+use Rattle.writing.specs.Puts.{leastOutput}
 use Rattle.line.specs.Call.{byReading, answered, numberAfter, keeperAfter, Wrote, Called}
 use Rattle.line.proofs.ResponseLaws.{wrote-within}
 use Rattle.image.specs.Layout.{imageLength, imageOf, imageAfter, keeperIn}

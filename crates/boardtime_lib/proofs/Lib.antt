@@ -2,3 +2,4 @@
 pub mod ImageLaws
 pub mod ApplyLaws
 pub mod Replayed
+pub mod CommandLaws

@@ -14,7 +14,7 @@ ghost use mathlib.Core.Path.{_≡_};
 ghost use Prim.Native.Nat.{_+_, _*_, _≤_};
 ghost use lib.ListN.{length};
 ghost use Rattle.image.specs.Layout.{imageLength};
-ghost use Rattle.answers.specs.Answers.{leastOutput};
+ghost use Rattle.writing.specs.Puts.{leastOutput};
 ghost use Rattle.boardtime_lib.specs.Apply.{storedAfter, CommandImage};
 
 // What a call with a line returns.

@@ -10,11 +10,12 @@ use image::load::load;
 use image::store::store;
 use keeper::Keeper;
 use lent::pass;
-use line::LEAST_OUTPUT;
 use line::write_refusal;
 use reader::read_command;
+use writing::LEAST_OUTPUT;
 
 mod apply;
+mod commands;
 
 ghost use mathlib.Core.Path.{_≡_};
 ghost use Rattle.boardtime_lib.specs.Images.{FreshImage, LineImage, PassImage};

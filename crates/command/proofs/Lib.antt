@@ -1,3 +1,4 @@
 -- Laws about the definitions of specs/.
 pub mod LimitLaws
 pub mod CauseLaws
+pub mod SpellingLaws

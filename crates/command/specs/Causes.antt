@@ -3,6 +3,7 @@ use mathlib.Core.Bool.{Bool, not}
 use mathlib.Core.List.{List, [], _∷_}
 use Prim.Native.Nat.{ℕ}
 use Rattle.bits.specs.Choice.{choose}
+use Rattle.command.specs.Forms.{Form}
 use Rattle.command.specs.Limits.{keeps, formOf}
 use Rattle.command.specs.declared.Command.{Command}
 
@@ -23,6 +24,10 @@ first (c ∷ cs) = choose (c .holds) (λ _. c .number) (λ _. first cs)
 abbrev pub mostNumber : ℕ
 mostNumber = 10
 
--- A command's own causes, which look at no keeper: 'a numeral outside its range, or a first edge above the second' is 2.
+-- The causes that a form has before 3, which look at no keeper: 'a numeral outside its range, or a first edge above the second' is 2.
+abbrev pub formCauses : Form → List Cause
+formCauses f = cause 2 (not (keeps f)) ∷ []
+
+-- A command's own causes are those of its form.
 unfoldable pub ownCauses : Command → List Cause
-ownCauses c = cause 2 (not (keeps (formOf c))) ∷ []
+ownCauses c = formCauses (formOf c)

@@ -1,5 +1,6 @@
 -- What the contracts of `command` cite.
 pub mod Forms
+pub mod Spelling
 pub mod Limits
 pub mod Edges
 pub mod Causes

@@ -41,26 +41,26 @@ pub fn tag_within(tag: u64) -> bool
 }
 
 // The numbers of a start.
-pub fn start_within(board: u8, claim: u16, edges: Interval) -> bool
+pub fn start_within(board: u64, claim: u64, edges: Interval) -> bool
     ensures { λ r. ⌜ r ≡ boardWithin board && claimWithin claim && edgesWithin edges ⌝ }
 {
-    if !board_within(board as u64) {
+    if !board_within(board) {
         return false;
     }
-    if !claim_within(claim as u64) {
+    if !claim_within(claim) {
         return false;
     }
     edges_within(edges)
 }
 
 // The numbers of a reply.
-pub fn reply_within(peer: u8, tag: u32, edges: Interval) -> bool
+pub fn reply_within(peer: u64, tag: u64, edges: Interval) -> bool
     ensures { λ r. ⌜ r ≡ boardWithin peer && tagWithin tag && edgesWithin edges ⌝ }
 {
-    if !board_within(peer as u64) {
+    if !board_within(peer) {
         return false;
     }
-    if !tag_within(tag as u64) {
+    if !tag_within(tag) {
         return false;
     }
     edges_within(edges)

@@ -14,7 +14,7 @@ use Rattle.keeper.specs.State.{stateOf}
 use Rattle.keeper.specs.Refusals.{refusal}
 use Rattle.keeper.specs.Apply.{apply}
 use Rattle.keeper.specs.declared.Keeper.{Keeper}
-use Rattle.answers.specs.Answers.{leastOutput}
+use Rattle.writing.specs.Puts.{leastOutput}
 use Rattle.line.specs.Call.{byReading, answered, keeperAfter}
 use Rattle.history.specs.Log.{Input, Log, acceptedCommand, accepting, logBy, logged, logAfter}
 use Rattle.history.specs.Course.{advanced, eventBy, eventOf, coursesAfter}

@@ -20,7 +20,7 @@ use Rattle.reader.specs.Reading.{readingOf}
 use Rattle.keeper.specs.State.{State}
 use Rattle.keeper.specs.Refusals.{keeperCauses, causes, refusal, replyBracket, replyVerdict}
 use Rattle.keeper.proofs.Causes.{accepted-none}
-use Rattle.answers.specs.Answers.{leastOutput}
+use Rattle.writing.specs.Puts.{leastOutput}
 use Rattle.history.specs.Log.{Input, Log, Accepting, accepts, refuses, acceptedCommand, accepting, logStarted, stateWith, logPassed, logAsked, logEnded, logCounted, logReplied, logAccepted, logBy, logged, logAfter}
 use Rattle.history.specs.Course.{Event, began, passed, met, stayed, repliedEvent, commandEvent, eventBy, eventOf}
 use Rattle.history.specs.Moments.{Begins, within-edges, Onward, at-end, next, Course, before-start, at-start, OneStart, OneForEachLine}

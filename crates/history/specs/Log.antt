@@ -21,7 +21,7 @@ use Rattle.command.specs.declared.Reading.the-variants.{Accepted, NoShape, Outs
 use Rattle.reader.specs.Reading.{readingOf}
 use Rattle.keeper.specs.State.{State}
 use Rattle.keeper.specs.Refusals.{refusal, replyVerdict}
-use Rattle.answers.specs.Answers.{leastOutput}
+use Rattle.writing.specs.Puts.{leastOutput}
 
 -- 'A line in the list may have any bytes and comes with the length of its lent output.'
 pub record Input : Type 0 where

@@ -65,7 +65,7 @@ impl Keeper {
         requires { ⌜ started ≡ countsAsStarted self ⌝ }
         ensures { λ r. ⌜ r ≡ apply self (C.Start board rule claim edges) ⌝ }
     {
-        if !start_within(board, claim, edges) {
+        if !start_within(board as u64, claim as u64, edges) {
             return refused(self, 2);
         }
         if started {

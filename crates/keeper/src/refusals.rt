@@ -52,7 +52,7 @@ pub(crate) fn wait_refusal(keeper: Keeper, started: bool, peer: u8, tag: u32, ed
     requires { ⌜ started ≡ countsAsStarted keeper ⌝ }
     ensures { λ r. ⌜ r ≡ first (ownCauses (C.Reply peer tag edges) ++ waitCauses (stateOf keeper) peer tag) ⌝ }
 {
-    if !reply_within(peer, tag, edges) {
+    if !reply_within(peer as u64, tag as u64, edges) {
         return 2;
     }
     let number = peer_refusal(keeper, started, peer);

@@ -21,7 +21,7 @@ use Rattle.keeper.specs.Refusals.{keeperCauses, causes, refusal}
 use Rattle.keeper.specs.Apply.{numberOf}
 use Rattle.keeper.specs.declared.Keeper.{Keeper}
 use Rattle.keeper.proofs.Returned.{apply-number}
-use Rattle.answers.specs.Answers.{leastOutput}
+use Rattle.writing.specs.Puts.{leastOutput}
 use Rattle.line.specs.Call.{byReading, answered, numberAfter, isNoShape, isOutside, commandCauses, callCauses}
 
 -- a command that was read is within its limits: its own cause does not hold

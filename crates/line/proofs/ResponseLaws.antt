@@ -21,7 +21,7 @@ use Rattle.keeper.specs.declared.Answer.the-variants as A
 use Rattle.keeper.proofs.Listing.{listed-started}
 use Rattle.keeper.proofs.Returned.{apply-number}
 use Rattle.keeper.proofs.Causes.{refusal-most}
-use Rattle.answers.specs.Answers.{leastOutput}
+use Rattle.writing.specs.Puts.{leastOutput}
 use Rattle.line.specs.Call.{byReading, answered, numberAfter, keeperAfter, Wrote, Called}
 use Rattle.line.proofs.AnsweredLaws.{refused-same}
 

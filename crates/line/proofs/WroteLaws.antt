@@ -11,7 +11,8 @@ use Rattle.keeper.specs.State.{countsAsStarted}
 use Rattle.keeper.specs.declared.Answer.{Answer}
 use Rattle.keeper.specs.declared.Answer.the-variants.{Waiting, Refused}
 use Rattle.keeper.specs.declared.Keeper.{Keeper}
-use Rattle.answers.specs.Answers.{leastOutput, lineOf}
+use Rattle.writing.specs.Puts.{leastOutput}
+use Rattle.answers.specs.Answers.{lineOf}
 use Rattle.answers.specs.Writing.{PutShort, LinePut}
 use Rattle.answers.proofs.LineLaws.{by-line}
 use Rattle.line.specs.Call.{Wrote}

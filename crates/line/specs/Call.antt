@@ -19,7 +19,8 @@ use Rattle.keeper.specs.declared.Keeper.{Keeper}
 use Rattle.keeper.specs.declared.Outcome.{Outcome}
 use Rattle.keeper.specs.declared.Answer.{Answer}
 use Rattle.keeper.specs.declared.Answer.the-variants as A
-use Rattle.answers.specs.Answers.{leastOutput, IsLine}
+use Rattle.writing.specs.Puts.{leastOutput}
+use Rattle.answers.specs.Answers.{IsLine}
 
 -- What is answered to a line that was read: a command does what it does, and what is none is refused with the number of its reading.
 abbrev pub byReading : Reading → Keeper → Outcome

@@ -8,6 +8,7 @@ use keeper::Outcome;
 use keeper::calls::apply_tested;
 use keeper::number::number_of;
 use reader::read_command;
+use writing::LEAST_OUTPUT;
 ghost use mathlib.Core.Path.{_≡_};
 ghost use mathlib.Core.Bool.{true};
 ghost use Prim.Native.Nat.{_≤_};
@@ -15,11 +16,8 @@ ghost use lib.ListN.{length};
 ghost use Rattle.keeper.specs.State.{countsAsStarted};
 ghost use Rattle.keeper.specs.declared.Answer.the-variants.{Waiting, Refused};
 ghost use Rattle.keeper.specs.declared.Keeper.{Keeper};
-ghost use Rattle.answers.specs.Answers.{leastOutput};
+ghost use Rattle.writing.specs.Puts.{leastOutput};
 ghost use Rattle.line.specs.Call.{answered, Wrote, Called};
-
-// The least output that a line's answer is written to.
-pub const LEAST_OUTPUT: usize = 256;
 
 // The number returned, the keeper handed back, and the length written.
 pub struct Response {

@@ -69,7 +69,7 @@ read-written line at n next e =
     let w = read-numeral line at n next e in
     put-same (stands-put w (rw (w .kind .spelling) (digits-some n))) (w .kind .spelling)
 
-signed-spelling : (z : ℤ) (s : List ℕ) → SignedNumeral z s → s ≡ signedDigits z
+pub signed-spelling : (z : ℤ) (s : List ℕ) → SignedNumeral z s → s ≡ signedDigits z
 unfolding signedDigits
 signed-spelling (pos n) s m = m .spelling
 signed-spelling (negsuc n) s (t, m, e) = e ∙ ap (λ (x : List ℕ). 45 ∷ x) (m .spelling)

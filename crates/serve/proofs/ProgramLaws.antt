@@ -11,7 +11,8 @@ use Rattle.command.specs.declared.Reading.the-variants.{NoShape}
 use Rattle.reader.specs.Reading.{longestLine, readingOf}
 use Rattle.keeper.specs.State.{fresh}
 use Rattle.keeper.specs.declared.Keeper.{Keeper}
-use Rattle.answers.specs.Answers.{IsLine, leastOutput}
+use Rattle.writing.specs.Puts.{leastOutput}
+use Rattle.answers.specs.Answers.{IsLine}
 use Rattle.line.specs.Call.{byReading, answered, keeperAfter}
 use Rattle.history.specs.Demand3.{keeperThrough}
 use Rattle.bits.proofs.Tests.{clash, by-test}

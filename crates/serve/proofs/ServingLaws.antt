@@ -16,7 +16,7 @@ use Rattle.lines.proofs.LineLaws.{joined-append, unbroken-append, line-whole, l
 use Rattle.stream.specs.Stream.{through, Answers}
 use Rattle.stream.proofs.Answering.{through-append, answers-append}
 use Rattle.serve.specs.Serving.{keeperNext, IsAnswer, Answered, LinesAnswered}
-use Rattle.answers.specs.Answers.{leastOutput}
+use Rattle.writing.specs.Puts.{leastOutput}
 
 -- A line is answered: the keeper after it, and its answer at the front of an output that has room for one.
 pub record Step (k : Keeper) (l before : List ℕ) (next : Keeper) (after : List ℕ) (n : ℕ) : Type 0 where

@@ -9,7 +9,7 @@ use lib.Dec.{leb}
 use lib.ListN.{length, take, drop, length-append, length-take, drop-of-length-le}
 use lib.Seq.{take-at, drop-at}
 use Rattle.keeper.specs.declared.Keeper.{Keeper}
-use Rattle.answers.specs.Answers.{leastOutput}
+use Rattle.writing.specs.Puts.{leastOutput}
 use Rattle.reader.specs.Reading.{longestLine}
 use Rattle.lines.specs.Lines.{breaks, heldOf, Held}
 use Rattle.bits.proofs.Tests.{by-test}

@@ -6,7 +6,7 @@ use Prim.Native.Nat.{ℕ}
 use lib.ListN.{take, drop}
 use Rattle.keeper.specs.State.{fresh}
 use Rattle.keeper.specs.declared.Keeper.{Keeper}
-use Rattle.answers.specs.Answers.{leastOutput}
+use Rattle.writing.specs.Puts.{leastOutput}
 use Rattle.history.specs.Log.{Input}
 use Rattle.history.specs.Demand3.{keeperThrough, Demand3}
 use Rattle.lines.specs.Lines.{breaks, linesOf}

@@ -5,7 +5,8 @@ use mathlib.Core.List.{List, [], _∷_, _++_}
 use Prim.Native.Nat.{ℕ, _+_, _<_}
 use lib.ListN.{length, drop}
 use Rattle.keeper.specs.declared.Keeper.{Keeper}
-use Rattle.answers.specs.Answers.{IsLine, leastOutput}
+use Rattle.writing.specs.Puts.{leastOutput}
+use Rattle.answers.specs.Answers.{IsLine}
 use Rattle.line.specs.Call.{answered, keeperAfter}
 use Rattle.lines.specs.Lines.{lf, breaks, joined, Unbroken}
 use Rattle.stream.specs.Stream.{through, Answers}

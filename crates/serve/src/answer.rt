@@ -4,10 +4,10 @@ use keeper::Answer;
 use keeper::Keeper;
 use keeper::calls::apply_command;
 use keeper::number::number_of;
-use line::LEAST_OUTPUT;
 use line::write_answer;
 use lines::line_end;
 use reader::read_command;
+use writing::LEAST_OUTPUT;
 ghost use lib.ListN.{drop};
 ghost use Rattle.serve.specs.Serving.{LinesAnswered};
 

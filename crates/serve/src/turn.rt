@@ -7,7 +7,7 @@ use reader::LONGEST_LINE;
 ghost use mathlib.Core.Path.{_≡_};
 ghost use Prim.Native.Nat.{_+_, _≤_};
 ghost use lib.ListN.{length, take};
-ghost use Rattle.answers.specs.Answers.{leastOutput};
+ghost use Rattle.writing.specs.Puts.{leastOutput};
 ghost use Rattle.serve.specs.Turning.{InOrder, Turned};
 
 // So much is held of an unfinished line: one byte more than a command may have, by which a line that is too long is refused.

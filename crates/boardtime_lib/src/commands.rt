@@ -1,0 +1,102 @@
+// Commands written back, for who sends lines: a call for each form, and one that writes the plain spelling of a line. Numbers have 64 bits, so that
+// none is cut short on the way in. An enum can't cross, so a rule is a number: 0 for im, 1 for mm.
+use crate::apply::returned;
+use moment::Interval;
+use reader::read_command;
+use writer::forms::write_drop;
+use writer::forms::write_pass;
+use writer::forms::write_read;
+use writer::forms::write_reply;
+use writer::forms::write_request;
+use writer::forms::write_start_by_number;
+use writer::forms::write_waiting;
+use writer::write_reading;
+ghost use Rattle.moment.specs.Intervals.{interval};
+ghost use Rattle.command.specs.Forms.{start, pass, request, reply, drop, read, waiting};
+ghost use Rattle.reader.specs.Reading.{readingOf};
+ghost use Rattle.writer.specs.Written.{writtenForm, writtenByRule, writtenReading};
+ghost use Rattle.boardtime_lib.specs.Commands.{Leaves};
+
+#[no_mangle]
+pub extern "C" fn boardtime_write_start(
+    out: &mut [u8],
+    board: u64,
+    rule: u64,
+    claim: u64,
+    lower: i64,
+    upper: i64,
+) -> u32
+    ensures { λ r. ⌜ Leaves (writtenByRule rule (λ x. start board x claim (interval lower upper)) (now (out .entry))) r (now (out .exit)) ⌝ }
+{
+    let edges = Interval { lower, upper };
+    let written = write_start_by_number(out, board, rule, claim, edges);
+    returned(written.number, written.length)
+}
+
+#[no_mangle]
+pub extern "C" fn boardtime_write_pass(out: &mut [u8], ticks: u64) -> u32
+    ensures { λ r. ⌜ Leaves (writtenForm (pass ticks) (now (out .entry))) r (now (out .exit)) ⌝ }
+{
+    let written = write_pass(out, ticks);
+    returned(written.number, written.length)
+}
+
+#[no_mangle]
+pub extern "C" fn boardtime_write_request(out: &mut [u8], peer: u64) -> u32
+    ensures { λ r. ⌜ Leaves (writtenForm (request peer) (now (out .entry))) r (now (out .exit)) ⌝ }
+{
+    let written = write_request(out, peer);
+    returned(written.number, written.length)
+}
+
+#[no_mangle]
+pub extern "C" fn boardtime_write_reply(
+    out: &mut [u8],
+    peer: u64,
+    tag: u64,
+    trailing: i64,
+    leading: i64,
+) -> u32
+    ensures { λ r. ⌜ Leaves (writtenForm (reply peer tag (interval trailing leading)) (now (out .entry))) r (now (out .exit)) ⌝ }
+{
+    let edges = Interval {
+        lower: trailing,
+        upper: leading,
+    };
+    let written = write_reply(out, peer, tag, edges);
+    returned(written.number, written.length)
+}
+
+#[no_mangle]
+pub extern "C" fn boardtime_write_drop(out: &mut [u8], peer: u64) -> u32
+    ensures { λ r. ⌜ Leaves (writtenForm (drop peer) (now (out .entry))) r (now (out .exit)) ⌝ }
+{
+    let written = write_drop(out, peer);
+    returned(written.number, written.length)
+}
+
+#[no_mangle]
+pub extern "C" fn boardtime_write_read(out: &mut [u8]) -> u32
+    ensures { λ r. ⌜ Leaves (writtenForm read (now (out .entry))) r (now (out .exit)) ⌝ }
+{
+    let written = write_read(out);
+    returned(written.number, written.length)
+}
+
+#[no_mangle]
+pub extern "C" fn boardtime_write_waiting(out: &mut [u8]) -> u32
+    ensures { λ r. ⌜ Leaves (writtenForm waiting (now (out .entry))) r (now (out .exit)) ⌝ }
+{
+    let written = write_waiting(out);
+    returned(written.number, written.length)
+}
+
+// Writes the plain spelling of the command that a line is read as. A buffer that is too short is refused before the line's own refusals.
+#[no_mangle]
+pub extern "C" fn boardtime_plain(line: &[u8], out: &mut [u8]) -> u32
+    ensures { λ r. ⌜ Leaves (writtenReading (readingOf (now (line .entry))) (now (out .entry))) r (now (out .exit)) ⌝ }
+{
+    let reading = read_command(line);
+    let written = write_reading(out, reading);
+    returned(written.number, written.length)
+}

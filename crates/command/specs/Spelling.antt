@@ -1,0 +1,23 @@
+-- The plain spelling of a form, in which a command is written back: document 02, order 1.
+use mathlib.Core.List.{List, [], _∷_, _++_}
+use Prim.Native.Nat.{ℕ}
+use Rattle.text.specs.Words.{bytes}
+use Rattle.numeral.specs.Digits.{digits, signedDigits}
+use Rattle.command.specs.Forms.{Form, Part, text, rule, number, edge, ruleText, parts}
+
+-- The plain spelling of a part: its text as it stands, a number by its digits alone.
+abbrev pub plainPart : Part → List ℕ
+plainPart (text t) = bytes t
+plainPart (rule r) = bytes (ruleText r)
+plainPart (number n) = digits n
+plainPart (edge z) = signedDigits z
+
+-- Parts one after the other, and nothing else.
+unfoldable pub plainParts : List Part → List ℕ
+plainParts [] = []
+plainParts (p ∷ ps) = plainPart p ++ plainParts ps
+
+-- The plain spelling of a form is that of the parts which the grammar gives it. That it is a spelling in the sense of the grammar, and the
+-- only one that a line can have, is `plain-spells` and `spelling-plain` of proofs/SpellingLaws.antt.
+unfoldable pub plain : Form → List ℕ
+plain f = plainParts (parts f)

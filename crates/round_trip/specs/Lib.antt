@@ -1,0 +1,2 @@
+-- The theorem of order 1.
+pub mod RoundTrip

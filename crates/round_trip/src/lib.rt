@@ -1,0 +1,1 @@
+// No code: lines and commands read and written back, document 02, order 1, in specs/ and proofs/.

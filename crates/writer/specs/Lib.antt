@@ -1,0 +1,3 @@
+-- What the contracts of `writer` cite.
+pub mod Written
+pub mod Lines
