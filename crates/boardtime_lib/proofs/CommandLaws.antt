@@ -3,7 +3,7 @@ use mathlib.Core.Path.{_≡_, sym, ap, _∙_, subst}
 use mathlib.Core.List.{List}
 use Prim.Native.Nat.{ℕ, _+_, _*_, _≤_}
 use Rattle.writing.specs.Puts.{leastOutput}
-use Rattle.writer.specs.Written.{Left, left}
+use Rattle.form_lines.specs.Written.{Left, left}
 use Rattle.boardtime_lib.specs.Commands.{Leaves}
 
 module _ {w : Left} {n l : ℕ} {b : List ℕ} (e : left n l b ≡ w) where

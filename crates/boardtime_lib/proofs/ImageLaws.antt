@@ -3,7 +3,7 @@ use mathlib.Core.Path.{_≡_, refl, sym, ap, _∙_, subst}
 use mathlib.Core.Bool.{false}
 use mathlib.Core.List.{List}
 use Prim.Native.Nat.{ℕ, _+_, _*_, _<_, _≤_}
-use borrow.Author.Tests.{eq-eqb, ne-eqb, lt-ltb, le-ltb}
+use borrow.Author.Tests.{lt-ltb, le-ltb}
 use lib.ListN.{length}
 use native.Mathlib.Omega.{arith}
 use Rattle.command.specs.Limits.{ticksWithin}
@@ -25,8 +25,9 @@ use Rattle.writing.specs.Puts.{leastOutput}
 use Rattle.line.specs.Call.{byReading, answered, numberAfter, keeperAfter, Wrote, Called}
 use Rattle.line.proofs.ResponseLaws.{wrote-within}
 use Rattle.image.specs.Layout.{imageLength, imageOf, imageAfter, keeperIn}
-use Rattle.boardtime_lib.specs.Images.{wrongLength, Refused, imageLeft, FreshImage, LineImage, PassImage}
-use Rattle.boardtime_lib.specs.Apply.{CommandImage}
+use Rattle.on_image.specs.Apply.{imageLeft, CommandImage}
+use Rattle.on_image.proofs.ApplyLaws.{store-whole, left-refused}
+use Rattle.boardtime_lib.specs.Images.{wrongLength, Refused, FreshImage, LineImage, PassImage}
 
 -- ---- a buffer of another length
 
@@ -46,17 +47,8 @@ module _ (image : List ℕ) (other : length image ≡ imageLength → ⊥) where
 -- ---- an image
 
 module _ (image : List ℕ) (whole : length image ≡ imageLength) where
-  -- what is stored into a buffer of an image's length
-  pub store-whole : {image′ : List ℕ} (k : Keeper) → image′ ≡ imageAfter image k → image′ ≡ imageOf k
-  unfolding imageAfter
-  store-whole k e = rw (eq-eqb _ _ whole) at e
-
-  pub left-refused : (number : ℕ) (k : Keeper) → (number ≡ 0 → ⊥) → image ≡ imageLeft image number k
-  unfolding imageLeft
-  left-refused number k h = rw (ne-eqb _ _ h)
-
   pub fresh-stored : {image′ : List ℕ} {k : Keeper} → k ≡ fresh → image′ ≡ imageAfter image k → FreshImage image 0 image′
-  fresh-stored {k = k} e s = record { other-length = λ h. absurd (h whole); stored = λ _. (refl, store-whole k s ∙ ap imageOf e) }
+  fresh-stored {k = k} e s = record { other-length = λ h. absurd (h whole); stored = λ _. (refl, store-whole image whole k s ∙ ap imageOf e) }
 
   line-answered : {line out image′ out′ : List ℕ} {next : Keeper} {number n : ℕ} → Called (keeperIn image) line out number next out′ n
       → image′ ≡ imageLeft image number next → LineImage image line out (number + 256 * n) image′ out′
@@ -78,7 +70,7 @@ module _ (image : List ℕ) (whole : length image ≡ imageLength) where
         written = λ h. absurd (omega arith);
         within = omega arith;
       })
-      (left-refused 10 (keeperIn image) (λ e. let z : _≡_ {A = ℕ} 10 0 = e in omega arith))
+      (left-refused image 10 (keeperIn image) (λ e. let z : _≡_ {A = ℕ} 10 0 = e in omega arith))
 
   -- an output with room: what is answered to the line is written
   line-written : {line out image′ out′ : List ℕ} {n : ℕ} (o : Outcome) → leastOutput ≤ length out → length out′ ≡ length out → answered (keeperIn image) line ≡ o
@@ -108,7 +100,7 @@ module _ (image : List ℕ) (whole : length image ≡ imageLength) where
       → answered (keeperIn image) line ≡ outcomeOf (A.Refused m) (keeperIn image) → ((k : Keeper) → Wrote (A.Refused m) k out out′ n)
       → LineImage image line out (m + 256 * n) image out′
   line-none m some room same e wrote =
-      line-written (outcomeOf (A.Refused m) (keeperIn image)) room same e (wrote (keeperIn image)) (left-refused m (keeperIn image) some)
+      line-written (outcomeOf (A.Refused m) (keeperIn image)) room same e (wrote (keeperIn image)) (left-refused image m (keeperIn image) some)
 
   pub line-no-shape : {line out out′ : List ℕ} {n : ℕ} → leastOutput ≤ length out → length out′ ≡ length out → readingOf line ≡ NoShape
       → ((k : Keeper) → Wrote (A.Refused 1) k out out′ n) → LineImage image line out (1 + 256 * n) image out′
@@ -136,5 +128,5 @@ module _ (image : List ℕ) (whole : length image ≡ imageLength) where
       record {
         other-length = λ h. absurd (h whole);
         number-is = λ _. rw too-long;
-        image-is = λ _. left-refused 2 _ (λ e. let z : _≡_ {A = ℕ} 2 0 = e in omega arith);
+        image-is = λ _. left-refused image 2 _ (λ e. let z : _≡_ {A = ℕ} 2 0 = e in omega arith);
       }

@@ -1,5 +1,4 @@
 -- Laws about the definitions of specs/.
 pub mod ImageLaws
-pub mod ApplyLaws
 pub mod Replayed
 pub mod CommandLaws

@@ -19,7 +19,8 @@ use Rattle.image.proofs.StartedFits.{kept-read-back}
 use Rattle.history.specs.Log.{Input}
 use Rattle.history.specs.Demand3.{keeperThrough}
 use Rattle.history.proofs.Theorem.{demand-3, through-kept, through-more}
-use Rattle.boardtime_lib.specs.Images.{imageLeft, Answered, LineImage}
+use Rattle.on_image.specs.Apply.{imageLeft}
+use Rattle.boardtime_lib.specs.Images.{Answered, LineImage}
 use Rattle.boardtime_lib.specs.Replay.{LineCall, inputOf, Replayed, HoldsTheRun}
 
 -- ---- the result of a call with a line, taken apart

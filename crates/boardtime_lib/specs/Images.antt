@@ -2,15 +2,14 @@
 use mathlib.Core.Path.{_≡_}
 use mathlib.Core.List.{List}
 use Prim.Native.Nat.{ℕ, _+_, _*_}
-use lib.Dec.{eqb}
 use lib.ListN.{length}
-use Rattle.bits.specs.Choice.{choose}
 use Rattle.command.specs.declared.Command.the-variants as C
 use Rattle.keeper.specs.State.{fresh}
 use Rattle.keeper.specs.Apply.{apply, numberOf}
 use Rattle.keeper.specs.declared.Keeper.{Keeper}
 use Rattle.line.specs.Call.{Called}
 use Rattle.image.specs.Layout.{imageLength, imageOf, keeperIn}
+use Rattle.on_image.specs.Apply.{imageLeft}
 
 -- The number for a buffer that has not the length of an image.
 abbrev pub wrongLength : ℕ
@@ -20,10 +19,6 @@ wrongLength = 255
 pub record Refused (image : List ℕ) (number : ℕ) (after : List ℕ) : Type 0 where
   pub number-is : number ≡ wrongLength
   pub image-is : after ≡ image
-
--- The image after a call: that of the keeper that the call gives; a refused call leaves every byte as it was.
-unfoldable pub imageLeft : List ℕ → ℕ → Keeper → List ℕ
-imageLeft before number k = choose (eqb number 0) (λ _. imageOf k) (λ _. before)
 
 pub record FreshImage (image : List ℕ) (r : ℕ) (image′ : List ℕ) : Type 0 where
   pub other-length : (length image ≡ imageLength → ⊥) → Refused image r image′

@@ -1,5 +1,4 @@
 -- What the contracts of `boardtime_lib` cite, and the statement about calls one after the other.
 pub mod Images
-pub mod Apply
 pub mod Commands
 pub mod Replay

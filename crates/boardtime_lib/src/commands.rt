@@ -1,20 +1,21 @@
 // Commands written back, for who sends lines: a call for each form, and one that writes the plain spelling of a line. Numbers have 64 bits, so that
 // none is cut short on the way in. An enum can't cross, so a rule is a number: 0 for im, 1 for mm.
-use crate::apply::returned;
+use form_lines::write_drop;
+use form_lines::write_pass;
+use form_lines::write_read;
+use form_lines::write_reply;
+use form_lines::write_request;
+use form_lines::write_start_by_number;
+use form_lines::write_waiting;
 use moment::Interval;
+use on_image::returned;
 use reader::read_command;
-use writer::forms::write_drop;
-use writer::forms::write_pass;
-use writer::forms::write_read;
-use writer::forms::write_reply;
-use writer::forms::write_request;
-use writer::forms::write_start_by_number;
-use writer::forms::write_waiting;
 use writer::write_reading;
 ghost use Rattle.moment.specs.Intervals.{interval};
 ghost use Rattle.command.specs.Forms.{start, pass, request, reply, drop, read, waiting};
 ghost use Rattle.reader.specs.Reading.{readingOf};
-ghost use Rattle.writer.specs.Written.{writtenForm, writtenByRule, writtenReading};
+ghost use Rattle.form_lines.specs.Written.{writtenForm, writtenByRule};
+ghost use Rattle.writer.specs.Written.{writtenReading};
 ghost use Rattle.boardtime_lib.specs.Commands.{Leaves};
 
 #[no_mangle]

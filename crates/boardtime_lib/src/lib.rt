@@ -1,7 +1,5 @@
 // The keeper for firmware in C and Rust: functions on numbers and lent bytes. The keeper crosses as an image (crate `image`), which a board
 // may keep over a reset. What a caller owes is in include/boardtime.h: valid buffers that do not overlap and that nothing else uses meanwhile.
-use crate::apply::answer_command;
-use crate::apply::returned;
 use changes::store_passed;
 use command::Reading;
 use command::limits::ticks_within;
@@ -11,10 +9,11 @@ use image::store::store;
 use keeper::Keeper;
 use lent::pass;
 use line::write_refusal;
+use on_image::answer_command;
+use on_image::returned;
 use reader::read_command;
 use writing::LEAST_OUTPUT;
 
-mod apply;
 mod commands;
 
 ghost use mathlib.Core.Path.{_≡_};

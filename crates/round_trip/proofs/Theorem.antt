@@ -23,8 +23,9 @@ use Rattle.command.proofs.SpellingLaws.{spelling-plain, plain-spells, plain-mos
 use Rattle.reader.specs.Reading.{readingOf}
 use Rattle.reader.specs.Grammar.{Shaped}
 use Rattle.reader.proofs.GrammarLaws.{reads-the-grammar}
-use Rattle.writer.specs.Written.{Left, left, written}
-use Rattle.writer.proofs.WrittenLaws.{written-kept, written-accepts}
+use Rattle.form_lines.specs.Written.{Left, left}
+use Rattle.writer.specs.Written.{written}
+use Rattle.writer.proofs.CommandLaws.{written-kept, written-accepts}
 use Rattle.round_trip.specs.RoundTrip.{Accepts, lineIn, RoundTrip}
 
 -- the line of a command that is not refused

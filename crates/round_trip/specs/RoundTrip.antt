@@ -3,13 +3,14 @@
 use mathlib.Core.Path.{_≡_}
 use mathlib.Core.List.{List, _++_}
 use mathlib.Core.Logic.{_↔_}
-use Prim.Native.Nat.{ℕ, _≤_}
+use Prim.Native.Nat.{ℕ, _+_, _≤_}
 use lib.ListN.{length, take, drop}
 use Rattle.writing.specs.Puts.{leastOutput}
 use Rattle.command.specs.declared.Command.{Command}
 use Rattle.command.specs.declared.Reading.the-variants.{Accepted}
 use Rattle.reader.specs.Reading.{readingOf}
-use Rattle.writer.specs.Written.{left, written}
+use Rattle.form_lines.specs.Written.{left}
+use Rattle.writer.specs.Written.{written}
 
 -- The command is not refused in this buffer.
 abbrev pub Accepts : Command → List ℕ → Type 0

@@ -1,2 +1,2 @@
 -- Laws about the definitions of specs/.
-pub mod WrittenLaws
+pub mod CommandLaws

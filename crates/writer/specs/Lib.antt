@@ -1,3 +1,2 @@
 -- What the contracts of `writer` cite.
 pub mod Written
-pub mod Lines

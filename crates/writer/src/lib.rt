@@ -1,26 +1,18 @@
 // The writer of commands: document 02, order 1. A command by value and a lent buffer of any length in; the number and the length back.
-use crate::forms::write_drop;
-use crate::forms::write_pass;
-use crate::forms::write_read;
-use crate::forms::write_reply;
-use crate::forms::write_request;
-use crate::forms::write_start;
-use crate::forms::write_waiting;
-use crate::lines::refuse;
 use command::Command;
 use command::Reading;
-
-pub mod forms;
-mod lines;
-
+use form_lines::Written;
+use form_lines::refuse;
+use form_lines::write_drop;
+use form_lines::write_pass;
+use form_lines::write_read;
+use form_lines::write_reply;
+use form_lines::write_request;
+use form_lines::write_start;
+use form_lines::write_waiting;
 ghost use mathlib.Core.Path.{_≡_};
-ghost use Rattle.writer.specs.Written.{left, written, writtenReading};
-
-// The number, and the length of the line at the front of the buffer; 0 if the number is not.
-pub struct Written {
-    pub number: u8,
-    pub length: usize,
-}
+ghost use Rattle.form_lines.specs.Written.{left};
+ghost use Rattle.writer.specs.Written.{written, writtenReading};
 
 // Writes the line of a command, whose numbers may be outside their limits.
 pub fn write_command(out: &mut [u8], command: Command) -> Written

@@ -8,8 +8,8 @@ use Rattle.keeper.specs.declared.Keeper.{Keeper}
 use Rattle.command.proofs.LimitLaws.{ticks-bound}
 use Rattle.image.specs.Layout.{keeperIn}
 use Rattle.image.proofs.StartedFits.{all-below}
-use Rattle.boardtime_lib.proofs.ImageLaws.{pass-refused, pass-too-long, pass-moved, left-refused}
-use Rattle.boardtime_lib.proofs.ApplyLaws.{pass-kept}
+use Rattle.on_image.proofs.ApplyLaws.{left-refused, pass-kept}
+use Rattle.boardtime_lib.proofs.ImageLaws.{pass-refused, pass-too-long, pass-moved}
 use borrow.Author.Needs.{needs}
 use Rattle.boardtime_lib.proofs.boardtime_pass.Statement.{statement}
 use Rattle.boardtime_lib.proofs.boardtime_pass.Tie as tie
@@ -49,7 +49,7 @@ same-length-3 c = search needs
 returns-3 : tie.Need-returns-3
 returns-3 c =
     let whole = eqb-true _ _ (sym (c .before .before .before .before .before .before .before .before .is-image .ensures) ∙ not-false _ (c .before .before .before .before .before .before .before .if1 .left)) in
-    pass-moved _ whole (c .before .before .before .load .ensures) (c .before .before .pass .ensures) refl (left-refused _ whole _ _ (c .if3 .taken))
+    pass-moved _ whole (c .before .before .before .load .ensures) (c .before .before .pass .ensures) refl (left-refused _ _ _ (c .if3 .taken))
 
 store-passed-requires : tie.Need-store-passed-requires
 store-passed-requires c κs = search needs

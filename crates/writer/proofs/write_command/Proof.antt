@@ -1,6 +1,6 @@
 -- `writer::write_command` meets its contract: in each arm the command is the case that the form is of.
 use borrow.Author.Needs.{needs}
-use Rattle.writer.proofs.WrittenLaws.{command-left}
+use Rattle.writer.proofs.CommandLaws.{command-left}
 use Rattle.writer.proofs.write_command.Statement.{statement}
 use Rattle.writer.proofs.write_command.Tie as tie
 

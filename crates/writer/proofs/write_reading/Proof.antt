@@ -1,7 +1,7 @@
 -- `writer::write_reading` meets its contract: in each arm the reading is the case that is written.
 use borrow.Author.Needs.{needs}
 use Rattle.writer.specs.Written.{writtenReading}
-use Rattle.writer.proofs.WrittenLaws.{reading-left}
+use Rattle.writer.proofs.CommandLaws.{reading-left}
 use Rattle.writer.proofs.write_reading.Statement.{statement}
 use Rattle.writer.proofs.write_reading.Tie as tie
 

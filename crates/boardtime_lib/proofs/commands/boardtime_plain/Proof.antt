@@ -1,7 +1,7 @@
 -- `boardtime_lib::commands::boardtime_plain` meets its contract: what the line is read as is written back, and handed back as one number.
 use mathlib.Core.Path.{sym}
 use borrow.Author.Needs.{needs}
-use Rattle.writer.proofs.WrittenLaws.{reading-left, reading-most}
+use Rattle.writer.proofs.CommandLaws.{reading-left, reading-most}
 use Rattle.boardtime_lib.proofs.CommandLaws.{length-fits, leaves}
 use Rattle.boardtime_lib.proofs.commands.boardtime_plain.Statement.{statement}
 use Rattle.boardtime_lib.proofs.commands.boardtime_plain.Tie as tie

@@ -1,7 +1,7 @@
 -- `boardtime_lib::commands::boardtime_write_reply` meets its contract: its form is written, and handed back as one number.
 use mir.Facts.{toZ-ofZ}
 use borrow.Author.Needs.{needs}
-use Rattle.writer.proofs.WrittenLaws.{form-most}
+use Rattle.form_lines.proofs.WrittenLaws.{form-most}
 use Rattle.boardtime_lib.proofs.CommandLaws.{length-fits, leaves}
 use Rattle.boardtime_lib.proofs.commands.boardtime_write_reply.Statement.{statement}
 use Rattle.boardtime_lib.proofs.commands.boardtime_write_reply.Tie as tie

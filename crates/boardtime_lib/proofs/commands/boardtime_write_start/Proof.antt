@@ -1,7 +1,7 @@
 -- `boardtime_lib::commands::boardtime_write_start` meets its contract: the form by the number of its rule, and handed back as one number.
 use mir.Facts.{toZ-ofZ}
 use borrow.Author.Needs.{needs}
-use Rattle.writer.proofs.WrittenLaws.{by-rule-most}
+use Rattle.form_lines.proofs.WrittenLaws.{by-rule-most}
 use Rattle.boardtime_lib.proofs.CommandLaws.{length-fits, leaves}
 use Rattle.boardtime_lib.proofs.commands.boardtime_write_start.Statement.{statement}
 use Rattle.boardtime_lib.proofs.commands.boardtime_write_start.Tie as tie

@@ -1,0 +1,112 @@
+// The line of each form, written to a lent buffer of any length: document 02, order 1. Numbers have 64 bits, so that one that no command can
+// hold is refused, and not cut short.
+use crate::shapes::NO_ROOM;
+use crate::shapes::OUTSIDE_LIMITS;
+use crate::shapes::write_bare;
+use crate::shapes::write_edged;
+use crate::shapes::write_numbered;
+use command::limits::board_within;
+use command::limits::reply_within;
+use command::limits::start_within;
+use command::limits::ticks_within;
+use moment::Interval;
+use rules::Rule;
+use writing::LEAST_OUTPUT;
+
+mod shapes;
+
+ghost use mathlib.Core.Path.{_≡_};
+ghost use Rattle.command.specs.Forms.{start, pass, request, reply, drop, read, waiting};
+ghost use Rattle.form_lines.specs.Written.{left, writtenForm, refused, writtenByRule};
+
+// The number, and the length of the line at the front of the buffer. A refusal has length 0, and touches no byte.
+pub struct Written {
+    pub number: u8,
+    pub length: usize,
+}
+
+pub fn write_start(out: &mut [u8], board: u64, rule: Rule, claim: u64, edges: Interval) -> Written
+    ensures { λ r. ⌜ left (r .number) (r .length) (now (out .exit)) ≡ writtenForm (start board rule claim edges) (now (out .entry)) ⌝ }
+{
+    let kept = start_within(board, claim, edges);
+    match rule {
+        Rule::Im => write_edged(out, kept, b"(start ", board, b" im ", claim, edges),
+        Rule::Mm => write_edged(out, kept, b"(start ", board, b" mm ", claim, edges),
+    }
+}
+
+// No line: the number, after 10.
+pub fn refuse(out: &[u8], number: u8) -> Written
+    ensures { λ r. ⌜ left (r .number) (r .length) (now (out .entry)) ≡ refused number (now (out .entry)) ⌝ }
+{
+    if out.len() < LEAST_OUTPUT {
+        return Written {
+            number: NO_ROOM,
+            length: 0,
+        };
+    }
+    Written { number, length: 0 }
+}
+
+// A start whose rule is a number too: 0 for im, 1 for mm.
+pub fn write_start_by_number(
+    out: &mut [u8],
+    board: u64,
+    rule: u64,
+    claim: u64,
+    edges: Interval,
+) -> Written
+    ensures { λ r. ⌜ left (r .number) (r .length) (now (out .exit)) ≡ writtenByRule rule (λ x. start board x claim edges) (now (out .entry)) ⌝ }
+{
+    if rule == 0 {
+        return write_start(out, board, Rule::Im, claim, edges);
+    }
+    if rule == 1 {
+        return write_start(out, board, Rule::Mm, claim, edges);
+    }
+    refuse(out, OUTSIDE_LIMITS)
+}
+
+pub fn write_pass(out: &mut [u8], ticks: u64) -> Written
+    ensures { λ r. ⌜ left (r .number) (r .length) (now (out .exit)) ≡ writtenForm (pass ticks) (now (out .entry)) ⌝ }
+{
+    write_numbered(out, ticks_within(ticks), b"(pass ", ticks)
+}
+
+pub fn write_request(out: &mut [u8], peer: u64) -> Written
+    ensures { λ r. ⌜ left (r .number) (r .length) (now (out .exit)) ≡ writtenForm (request peer) (now (out .entry)) ⌝ }
+{
+    write_numbered(out, board_within(peer), b"(request ", peer)
+}
+
+pub fn write_reply(out: &mut [u8], peer: u64, tag: u64, edges: Interval) -> Written
+    ensures { λ r. ⌜ left (r .number) (r .length) (now (out .exit)) ≡ writtenForm (reply peer tag edges) (now (out .entry)) ⌝ }
+{
+    write_edged(
+        out,
+        reply_within(peer, tag, edges),
+        b"(reply ",
+        peer,
+        b" ",
+        tag,
+        edges,
+    )
+}
+
+pub fn write_drop(out: &mut [u8], peer: u64) -> Written
+    ensures { λ r. ⌜ left (r .number) (r .length) (now (out .exit)) ≡ writtenForm (drop peer) (now (out .entry)) ⌝ }
+{
+    write_numbered(out, board_within(peer), b"(drop ", peer)
+}
+
+pub fn write_read(out: &mut [u8]) -> Written
+    ensures { λ r. ⌜ left (r .number) (r .length) (now (out .exit)) ≡ writtenForm read (now (out .entry)) ⌝ }
+{
+    write_bare(out, b"(read)")
+}
+
+pub fn write_waiting(out: &mut [u8]) -> Written
+    ensures { λ r. ⌜ left (r .number) (r .length) (now (out .exit)) ≡ writtenForm waiting (now (out .entry)) ⌝ }
+{
+    write_bare(out, b"(waiting)")
+}
