@@ -9,16 +9,18 @@
  * The keeper is an image: an array of 232 bytes that the caller owns. A call
  * reads the image and answers; an accepted one makes it the image of the keeper
  * after it, by storing what the command changed: nothing for a read or a list
- * of the waiting peers. A refused one leaves every byte as it was. The library
- * holds nothing between calls, allocates nothing and calls nothing but memcpy.
+ * of the waiting peers. A refused one leaves every byte as it was. Beside these
+ * there are calls without an image, which write a command as its line. The
+ * library holds nothing between calls, allocates nothing and calls nothing but
+ * memcpy.
  *
  * What the caller owes:
  *   - every pointer is valid for the length that is passed with it, and is not
  *     null even where that length is 0;
  *   - the image and the output of a call do not overlap, and neither overlaps
  *     the line;
- *   - from entry to return nothing else writes the three buffers, or reads the
- *     image or the output. So no interrupt makes a call on an image that it
+ *   - from entry to return nothing else writes a buffer of the call, or reads
+ *     its image or its output. So no interrupt makes a call on an image that it
  *     may find in the middle of another call: it counts its ticks, and the
  *     main loop passes them. Calls on images and outputs that differ may run
  *     at the same time.
@@ -86,21 +88,21 @@ extern "C" {
 
 /* Length of an image. */
 #define BOARDTIME_IMAGE_BYTES 232
-/* Least length of the output for a line; a shorter one is refused with 10. No
-   answer is longer than this. */
+/* Least length of the output of a call that has one; a shorter one is refused
+   with 10. No answer is longer than this, and no line that is written. */
 #define BOARDTIME_OUTPUT_BYTES 256
 /* Greatest length of a line without its LF; a longer one is refused with 1. */
 #define BOARDTIME_LINE_BYTES 120
 
 /*
- * The number that a call returns. After any number but 0 the image is as it
- * was.
+ * The number that a call returns. After any number but 0 the image, if the call
+ * has one, is as it was.
  */
 /* The call was accepted. */
 #define BOARDTIME_ACCEPTED 0
 /* The line has no command's shape, or is longer than 120 bytes. */
 #define BOARDTIME_NO_SHAPE 1
-/* A numeral is outside its range, or a first edge is above the second. */
+/* A number is outside its range, or a first edge is above the second. */
 #define BOARDTIME_OUTSIDE_RANGE 2
 /* A start after a start, or another call before one. */
 #define BOARDTIME_WRONG_ORDER 3
@@ -118,7 +120,8 @@ extern "C" {
 #define BOARDTIME_TAGS_SPENT 9
 /* The output is shorter than 256 bytes. */
 #define BOARDTIME_SHORT_OUTPUT 10
-/* The image is not 232 bytes long. Tested before everything else. */
+/* The image is not 232 bytes long. Tested before everything else. No call
+   without an image returns this. */
 #define BOARDTIME_WRONG_IMAGE_LENGTH 255
 
 /*
@@ -142,14 +145,14 @@ uint32_t boardtime_line(uint8_t *image, size_t image_length,
                         const uint8_t *line, size_t line_length,
                         uint8_t *out, size_t out_length);
 
-/* The number in what boardtime_line returned. */
+/* The number in what boardtime_line, or a call that writes a line, returned. */
 #define BOARDTIME_NUMBER(returned) \
     ((uint8_t)(BOARDTIME_WHOLE(returned) & 255u))
-/* The length of the answer in what boardtime_line returned. */
+/* The length of the answer, or of the line that was written, in the same. */
 #define BOARDTIME_LENGTH(returned) ((size_t)(BOARDTIME_WHOLE(returned) >> 8))
-/* What boardtime_line returned, for these two. A variable of 8 or 16 bits has
-   lost the length or a part of it: for one the size of the array is negative,
-   and the compiler stops. The argument is evaluated once. */
+/* What was returned, for these two. A variable of 8 or 16 bits has lost the
+   length or a part of it: for one the size of the array is negative, and the
+   compiler stops. The argument is evaluated once. */
 #define BOARDTIME_WHOLE(returned) \
     ((uint32_t)(returned) + 0 * sizeof(char[sizeof(returned) < 4 ? -1 : 1]))
 
@@ -164,6 +167,79 @@ uint32_t boardtime_line(uint8_t *image, size_t image_length,
  * began again at 0 no call can see: one of 16 bits does so after 65 seconds.
  */
 uint8_t boardtime_pass(uint8_t *image, size_t image_length, uint64_t ticks);
+
+/*
+ * The calls below write lines. Each of the first seven writes a command, given
+ * as its numbers, as its line: one space between parts, none elsewhere, no
+ * leading zero. The line is stored at the front of the output without an LF,
+ * and no byte after it is touched. boardtime_line takes it as it stands; the
+ * program takes it with an LF behind it, for which the output has room.
+ *
+ * Each returns the number and the length of the line, to be taken with
+ * BOARDTIME_NUMBER and BOARDTIME_LENGTH. The number is 10 if the output is
+ * shorter than 256 bytes; else 2 if a number of the command is outside its
+ * range or its first edge is above the second; else 0. The numbers 10 and 2
+ * come with length 0 and an untouched output.
+ *
+ * A line that is written has at most BOARDTIME_LINE_BYTES bytes and is read as
+ * the command that it was written from: boardtime_line refuses it with neither
+ * 1 nor 2. No two commands have the same line. What a keeper makes of a command
+ * no call without an image can know: the numbers 3 to 9 are boardtime_line's.
+ *
+ * All numbers have 64 bits, so that none is cut short on its way here: a board
+ * of 256 is refused with 2 and not written as 0, and a negative int that is
+ * passed as a board arrives as a number above 15. Only an edge is signed. What
+ * C makes of an unsigned number above INT64_MAX that is passed as an edge is
+ * the caller's: it may arrive as an edge within the range.
+ */
+
+/* The rule of a start: im or mm, as in byte 3 of an image. Any other number is
+   outside its range. */
+#define BOARDTIME_IM 0
+#define BOARDTIME_MM 1
+
+/* `(start BOARD RULE CLAIM (LOWER UPPER))`: the board is 0 to 15, the rule
+   BOARDTIME_IM or BOARDTIME_MM, the claim 0 to 50000, and the edges are from
+   -4000000000000000000 through 4000000000000000000, the lower at most the
+   upper. */
+uint32_t boardtime_write_start(uint8_t *out, size_t out_length, uint64_t board,
+                               uint64_t rule, uint64_t claim, int64_t lower,
+                               int64_t upper);
+
+/* `(pass TICKS)`: the ticks are 0 to 86400000. */
+uint32_t boardtime_write_pass(uint8_t *out, size_t out_length, uint64_t ticks);
+
+/* `(request PEER)`: the peer is 0 to 15. */
+uint32_t boardtime_write_request(uint8_t *out, size_t out_length,
+                                 uint64_t peer);
+
+/* `(reply PEER TAG (TRAILING LEADING))`: the peer is 0 to 15, the tag 1 to
+   16777215, and the edges are as those of a start. */
+uint32_t boardtime_write_reply(uint8_t *out, size_t out_length, uint64_t peer,
+                               uint64_t tag, int64_t trailing, int64_t leading);
+
+/* `(drop PEER)`: the peer is 0 to 15. */
+uint32_t boardtime_write_drop(uint8_t *out, size_t out_length, uint64_t peer);
+
+/* `(read)`, which has no number: refused with 10 alone. */
+uint32_t boardtime_write_read(uint8_t *out, size_t out_length);
+
+/* `(waiting)`, as `(read)`. */
+uint32_t boardtime_write_waiting(uint8_t *out, size_t out_length);
+
+/*
+ * Reads a line, which is given without its LF, and writes its command as the
+ * calls above do: the line's plain spelling. For every line that can be read
+ * today that is the line itself, byte for byte.
+ *
+ * Returns the number and the length of the spelling: 10 if the output is
+ * shorter than 256 bytes; else 1 if the line has no command's shape or is
+ * longer than 120 bytes; else 2 if a numeral is outside its range or a first
+ * edge is above the second; else 0. The numbers but 0 come with length 0 and an
+ * untouched output.
+ */
+uint32_t boardtime_plain(const uint8_t *line, size_t line_length, uint8_t *out,
+                         size_t out_length);
 
 #ifdef __cplusplus
 }

@@ -1,6 +1,7 @@
 //! Gives the proved library and the independent implementation the same calls
-//! and compares everything that they return and store. Then gives the program
-//! inputs and compares everything that it writes.
+//! and compares everything that they return and store. Every line that they
+//! answer they also write back. Gives the program inputs and compares
+//! everything that it writes.
 //!
 //! BOARDTIME_PROGRAM names the program. The optional argument is the seed;
 //! without it the run is always the same.
@@ -16,6 +17,7 @@ mod program;
 mod random;
 mod tally;
 mod test;
+mod write;
 
 use std::env;
 use std::process::ExitCode;
@@ -46,6 +48,11 @@ fn main() -> ExitCode {
     kinds::run_all(&mut test);
     test.tally.print();
     let missing = test.tally.missing();
+    println!(
+        "writing: {} commands, {} lines written back, 0 mismatches",
+        test.tally.writes.command_count(),
+        test.tally.writes.plain_count()
+    );
     println!("{}, 0 mismatches", test.tally.program);
     println!(
         "program: {} runs with a failed read or write, 0 mismatches",

@@ -3,6 +3,7 @@
 use crate::answer::word;
 use crate::limits::LAST_PASS;
 use crate::program::ProgramTally;
+use crate::write::WriteTally;
 
 /// Everything that has to occur has to occur this often.
 const ENOUGH: u64 = 1000;
@@ -29,7 +30,8 @@ const ANSWERS: [&str; 9] = [
     "started", "at", "sent", "taken", "kept", "conflict", "dropped", "time", "waiting",
 ];
 
-type Numbers = [u64; 256];
+/// How often each number was returned.
+pub type Numbers = [u64; 256];
 
 pub struct Tally {
     kinds: Vec<(&'static str, u64)>,
@@ -40,6 +42,7 @@ pub struct Tally {
     /// Passes whose lower 32 bits alone would meet the limit.
     cut_passes: u64,
     freshes: Numbers,
+    pub writes: WriteTally,
     pub program: ProgramTally,
 }
 
@@ -53,6 +56,7 @@ impl Tally {
             passes: [0; 256],
             cut_passes: 0,
             freshes: [0; 256],
+            writes: WriteTally::new(),
             program: ProgramTally::default(),
         }
     }
@@ -122,6 +126,7 @@ impl Tally {
             self.cut_passes
         );
         print_numbers("boardtime_fresh", &self.freshes);
+        self.writes.print();
         println!("lines by the word that they begin with and the number returned:");
         for ((command, _), counts) in COMMANDS.iter().zip(&self.commands) {
             print_numbers(command, counts);
@@ -137,11 +142,7 @@ impl Tally {
     pub fn missing(&self) -> Vec<String> {
         let mut missing = Vec::new();
         let mut ask = |name: &str, numbers: &[u8], counts: &Numbers| {
-            for &number in numbers {
-                if counts[usize::from(number)] < ENOUGH {
-                    missing.push(format!("{name} returned {number} less than {ENOUGH} times"));
-                }
-            }
+            missing.extend(seldom(ENOUGH, name, numbers, counts));
         };
         ask("boardtime_line", &LINE_NUMBERS, &self.lines);
         ask("boardtime_pass", &PASS_NUMBERS, &self.passes);
@@ -159,9 +160,19 @@ impl Tally {
                 "less than {ENOUGH} passes whose lower 32 bits would be accepted"
             ));
         }
+        missing.extend(self.writes.missing(ENOUGH));
         missing.extend(self.program.missing(ENOUGH));
         missing
     }
+}
+
+/// The numbers that a call returned less than `enough` times.
+pub fn seldom(enough: u64, name: &str, numbers: &[u8], counts: &Numbers) -> Vec<String> {
+    numbers
+        .iter()
+        .filter(|&&number| counts[usize::from(number)] < enough)
+        .map(|number| format!("{name} returned {number} less than {enough} times"))
+        .collect()
 }
 
 pub fn print_numbers(name: &str, counts: &[u64]) {

@@ -20,7 +20,7 @@ enum Call<'a> {
 }
 
 /// What a call returns; only a line has an answer.
-#[derive(Clone, Copy, PartialEq, Eq)]
+#[derive(Clone, Copy, Default, PartialEq, Eq)]
 pub struct Returned {
     pub number: u8,
     pub length: usize,
@@ -70,53 +70,70 @@ impl Test {
         Random::new(seed)
     }
 
-    /// Gives both sides a line. `image` becomes what they leave.
+    /// Gives both sides a line, and the same line to be written back. `image`
+    /// becomes what they leave.
     pub fn line(&mut self, image: &mut [u8], line: &[u8], out_length: usize) -> Returned {
-        let (returned, side) = self.call(image, Call::Line { line, out_length });
-        let answer = &side.out.bytes()[..returned.length];
+        let outcome = self.call(image, Call::Line { line, out_length });
+        let returned = outcome.library_returned;
+        let answer = &outcome.library.out.bytes()[..returned.length];
         self.tally.line(line, returned.number, answer);
+        let before = &outcome.before;
+        self.plain(&before.line, &before.out, written_back(returned.number));
         returned
     }
 
     /// Gives both sides a pass by number.
     pub fn pass(&mut self, image: &mut [u8], ticks: u64) -> u8 {
-        let (returned, _) = self.call(image, Call::Pass { ticks });
-        self.tally.pass(ticks, returned.number);
-        returned.number
+        let Returned { number, .. } = self.call(image, Call::Pass { ticks }).library_returned;
+        self.tally.pass(ticks, number);
+        number
     }
 
     /// Asks both sides for the image of a fresh keeper.
     pub fn fresh(&mut self, image: &mut [u8]) -> u8 {
-        let (returned, _) = self.call(image, Call::Fresh);
-        self.tally.fresh(returned.number);
-        returned.number
+        let Returned { number, .. } = self.call(image, Call::Fresh).library_returned;
+        self.tally.fresh(number);
+        number
     }
 
-    fn call(&mut self, image: &mut [u8], call: Call) -> (Returned, Side) {
+    fn call(&mut self, image: &mut [u8], call: Call) -> Outcome {
         self.tally.case();
         let before = self.lend(image, call);
-        let mut library = before.clone();
-        let library_returned = call_library(&mut library, call);
-        let mut independent = before.clone();
-        let independent_returned = call_independent(&mut independent, call);
-        let outcome = Outcome {
+        let mut outcome = Outcome {
+            library: before.clone(),
+            library_returned: Returned::default(),
+            independent: before.clone(),
+            independent_returned: Returned::default(),
             before,
-            library,
-            library_returned,
-            independent,
-            independent_returned,
         };
+        outcome.library_returned = call_library(&mut outcome.library, call);
+        outcome.independent_returned = call_independent(&mut outcome.independent, call);
         if let Err(difference) = outcome.compare() {
             self.report(difference, call, &outcome);
             process::exit(1);
         }
         image.copy_from_slice(outcome.library.image.bytes());
-        (library_returned, outcome.library)
+        outcome
+    }
+
+    fn pattern(&mut self) -> Pattern {
+        let mut pattern = [0; WHOLE];
+        self.random.fill(&mut pattern);
+        pattern
+    }
+
+    /// An output of this length.
+    pub fn output(&mut self, length: usize) -> Lent {
+        Lent::new(&self.pattern(), self.random.place(PLACES), length)
+    }
+
+    /// A buffer that holds these bytes.
+    pub fn holding(&mut self, bytes: &[u8]) -> Lent {
+        Lent::holding(&self.pattern(), self.random.place(PLACES), bytes)
     }
 
     fn lend(&mut self, image: &[u8], call: Call) -> Side {
-        let mut pattern: Pattern = [0; WHOLE];
-        self.random.fill(&mut pattern);
+        let pattern = self.pattern();
         let (line, out_length) = match call {
             Call::Line { line, out_length } => (line, out_length),
             Call::Pass { .. } | Call::Fresh => (&[][..], 0),
@@ -190,15 +207,22 @@ impl Outcome {
     }
 }
 
+/// The number of a line that is written back, in an output of the same length,
+/// by that of the call with it: what a line means to a keeper does not matter.
+/// Where the image has the wrong length, nothing else was tested.
+fn written_back(number: u8) -> Option<u8> {
+    match number {
+        1 | 2 | 10 => Some(number),
+        library::WRONG_LENGTH => None,
+        _ => Some(0),
+    }
+}
+
 fn call_library(side: &mut Side, call: Call) -> Returned {
     let image = side.image.bytes_mut();
     let number = match call {
         Call::Line { .. } => {
-            let returned = library::line(image, side.line.bytes(), side.out.bytes_mut());
-            return Returned {
-                number: returned.number,
-                length: returned.length,
-            };
+            return library::line(image, side.line.bytes(), side.out.bytes_mut()).into();
         }
         Call::Pass { ticks } => library::pass(image, ticks),
         Call::Fresh => library::fresh(image),
@@ -238,6 +262,6 @@ impl fmt::Display for Call<'_> {
     }
 }
 
-fn hex(bytes: &[u8]) -> String {
+pub fn hex(bytes: &[u8]) -> String {
     bytes.iter().map(|byte| format!("{byte:02x}")).collect()
 }

@@ -8,6 +8,7 @@
 #include "boardtime.h"
 
 #define START "(start 3 im 200 (-1000 1000))"
+#define START_MM "(start 3 mm 200 (-1000 1000))"
 #define LAST_TAG 16777215u
 /* Both the last moment and the most ticks. */
 #define LAST_MOMENT 4000000000000000000u
@@ -15,6 +16,10 @@
 #define LONGEST_SHAPE                                 \
     "(start 9999999999999999999 im 9999999999999999999" \
     " (-9999999999999999999 -9999999999999999999))"
+/* One of the two longest lines that are written: every part has the most
+   bytes. */
+#define LONGEST_WRITTEN \
+    "(start 15 mm 50000 (-4000000000000000000 -3999999999999999999))"
 
 /* One more than an image and an output, for a length that is too great. */
 static uint8_t image[BOARDTIME_IMAGE_BYTES + 1];
@@ -69,6 +74,26 @@ static uint8_t pass_of(uint64_t ticks)
     return boardtime_pass(image, BOARDTIME_IMAGE_BYTES, ticks);
 }
 
+/* Whether a call wrote this line. */
+static int wrote(uint32_t returned, const char *line)
+{
+    return BOARDTIME_NUMBER(returned) == BOARDTIME_ACCEPTED
+        && BOARDTIME_LENGTH(returned) == strlen(line)
+        && memcmp(out, line, strlen(line)) == 0;
+}
+
+static uint32_t start_of(uint64_t board, uint64_t rule)
+{
+    return boardtime_write_start(out, BOARDTIME_OUTPUT_BYTES, board, rule, 200,
+                                 -1000, 1000);
+}
+
+static uint32_t plain_of(const char *line)
+{
+    return boardtime_plain((const uint8_t *)line, strlen(line), out,
+                           BOARDTIME_OUTPUT_BYTES);
+}
+
 /* The keeper that `(start ...)` leaves. */
 static void start(void)
 {
@@ -110,6 +135,27 @@ static void lengths_of_an_output(void)
          BOARDTIME_NUMBER(line_of("(read)", 6, BOARDTIME_OUTPUT_BYTES)));
 }
 
+/* Tried before the numbers and the line, which would be refused too. */
+static void refused_output(size_t length)
+{
+    HELD(BOARDTIME_SHORT_OUTPUT, boardtime_write_start(out, length, 16, 2, 50001, 1, 0));
+    HELD(BOARDTIME_SHORT_OUTPUT, boardtime_write_pass(out, length, 86400001));
+    HELD(BOARDTIME_SHORT_OUTPUT, boardtime_write_request(out, length, 16));
+    HELD(BOARDTIME_SHORT_OUTPUT, boardtime_write_reply(out, length, 16, 0, 1, 0));
+    HELD(BOARDTIME_SHORT_OUTPUT, boardtime_write_drop(out, length, 16));
+    HELD(BOARDTIME_SHORT_OUTPUT, boardtime_write_read(out, length));
+    HELD(BOARDTIME_SHORT_OUTPUT, boardtime_write_waiting(out, length));
+    HELD(BOARDTIME_SHORT_OUTPUT,
+         boardtime_plain((const uint8_t *)"(pass 12x7)", 11, out, length));
+}
+
+/* At 256 bytes each line is there: numbers_of_written_lines. */
+static void lengths_of_a_written_output(void)
+{
+    for (size_t length = 0; length < BOARDTIME_OUTPUT_BYTES; length++)
+        refused_output(length);
+}
+
 /* Fifteen peers that wait, each with a tag of eight digits: no other answer has
    as many bytes. That it has 211 shows that every answer fits the output. */
 static void longest_answer(void)
@@ -146,9 +192,12 @@ static void lengths_of_a_line(void)
     HELD(BOARDTIME_OUTSIDE_RANGE, number_of(line));
     memset(line, ' ', sizeof line);
     memcpy(line, "(read)", 6);
-    for (size_t length = BOARDTIME_LINE_BYTES + 1; length <= sizeof line; length++)
+    for (size_t length = BOARDTIME_LINE_BYTES + 1; length <= sizeof line; length++) {
         HELD(BOARDTIME_NO_SHAPE,
              BOARDTIME_NUMBER(line_of(line, length, BOARDTIME_OUTPUT_BYTES)));
+        HELD(BOARDTIME_NO_SHAPE,
+             boardtime_plain((const uint8_t *)line, length, out, BOARDTIME_OUTPUT_BYTES));
+    }
 }
 
 static void numbers_of_lines(void)
@@ -197,14 +246,58 @@ static void numbers_of_passes(void)
     HELD(BOARDTIME_OVERFLOW, pass_of(1));
 }
 
+/* Each rule has its name in a line and its number in an image. */
+static void rules_of_a_start(void)
+{
+    HOLDS(wrote(start_of(3, BOARDTIME_IM), START));
+    HOLDS(wrote(start_of(3, BOARDTIME_MM), START_MM));
+    HELD(BOARDTIME_OUTSIDE_RANGE, start_of(3, BOARDTIME_MM + 1));
+    start();
+    HELD(BOARDTIME_IM, image[3]);
+    boardtime_fresh(image, BOARDTIME_IMAGE_BYTES);
+    HELD(BOARDTIME_ACCEPTED, number_of(START_MM));
+    HELD(BOARDTIME_MM, image[3]);
+}
+
+static void numbers_of_written_lines(void)
+{
+    size_t length = BOARDTIME_OUTPUT_BYTES;
+
+    HOLDS(strlen(LONGEST_WRITTEN) <= BOARDTIME_LINE_BYTES);
+    HOLDS(wrote(boardtime_write_start(out, length, 15, BOARDTIME_MM, 50000,
+                                      INT64_C(-4000000000000000000),
+                                      INT64_C(-3999999999999999999)),
+                LONGEST_WRITTEN));
+    /* The lowest byte of the first is 0; a negative int arrives as the second. */
+    HELD(BOARDTIME_OUTSIDE_RANGE, start_of(256, BOARDTIME_IM));
+    HELD(BOARDTIME_OUTSIDE_RANGE, start_of((uint64_t)-1, BOARDTIME_IM));
+    HOLDS(wrote(boardtime_write_pass(out, length, 86400000), "(pass 86400000)"));
+    HELD(BOARDTIME_OUTSIDE_RANGE, boardtime_write_pass(out, length, 86400001));
+    HOLDS(wrote(boardtime_write_request(out, length, 15), "(request 15)"));
+    HELD(BOARDTIME_OUTSIDE_RANGE, boardtime_write_request(out, length, 16));
+    HOLDS(wrote(boardtime_write_reply(out, length, 15, LAST_TAG, -5, 2),
+                "(reply 15 16777215 (-5 2))"));
+    HELD(BOARDTIME_OUTSIDE_RANGE, boardtime_write_reply(out, length, 15, 1, 2, -5));
+    HOLDS(wrote(boardtime_write_drop(out, length, 0), "(drop 0)"));
+    HELD(BOARDTIME_OUTSIDE_RANGE, boardtime_write_drop(out, length, 16));
+    HOLDS(wrote(boardtime_write_read(out, length), "(read)"));
+    HOLDS(wrote(boardtime_write_waiting(out, length), "(waiting)"));
+    HOLDS(wrote(plain_of(START_MM), START_MM));
+    HELD(BOARDTIME_NO_SHAPE, plain_of("(pass 12x7)"));
+    HELD(BOARDTIME_OUTSIDE_RANGE, plain_of("(pass 86400001)"));
+}
+
 int main(void)
 {
     lengths_of_an_image();
     lengths_of_an_output();
+    lengths_of_a_written_output();
     longest_answer();
     lengths_of_a_line();
     numbers_of_lines();
     numbers_of_states();
     numbers_of_passes();
+    rules_of_a_start();
+    numbers_of_written_lines();
     return failures != 0;
 }

@@ -1,7 +1,8 @@
 /*
  * Prints the stack that each call of the library touches, its return address
  * among it: the most over lines that reach every command, every answer and
- * every refusal, with up to fifteen peers waiting. A call runs on a stack of
+ * every refusal, with up to fifteen peers waiting, and over commands that are
+ * written, with the longest numerals and refused. A call runs on a stack of
  * its own that is painted before it, and the lowest byte that has another value
  * afterwards is how far the call went down. For x86-64, as the library is.
  */
@@ -16,38 +17,98 @@
 
 static uint8_t image[BOARDTIME_IMAGE_BYTES];
 static uint8_t out[BOARDTIME_OUTPUT_BYTES];
+static size_t out_length = sizeof out;
 static const uint8_t *line;
 static size_t line_length;
 static uint64_t ticks;
+static uint64_t board, rule, claim, tag;    /* of a command that is written */
+static int64_t lower, upper;
 static volatile uint32_t returned;
 
 static uint8_t stack[STACK_BYTES];
-static const uint8_t *top;
+const uint8_t *top;
 static ucontext_t here, there;
 
-/* Where the stack ends before a call. A call of six arguments or less pushes
-   nothing but its return address. */
-#define NOTE_TOP() __asm__ volatile("mov %%rsp, %0" : "=r"(top))
+/* A call by the name noted_...: it stores where the return address ends, and
+   goes on as the call itself. An argument on the stack, as the last one of a
+   start is, lies above that and is the caller's. `top` is not static, so that
+   it has its name in assembly too. */
+#define NOTED(call)                                             \
+    extern __typeof__(call) noted_##call;                       \
+    __asm__(".pushsection .text\n"                              \
+            "noted_" #call ": lea 8(%rsp), %rax\n"              \
+            "mov %rax, top(%rip)\n"                             \
+            "jmp " #call "\n"                                   \
+            ".popsection")
 
-/* That something is done with the result keeps each call a call: a jump would
-   have no return address of its own. */
+NOTED(boardtime_fresh);
+NOTED(boardtime_pass);
+NOTED(boardtime_line);
+NOTED(boardtime_write_start);
+NOTED(boardtime_write_pass);
+NOTED(boardtime_write_request);
+NOTED(boardtime_write_reply);
+NOTED(boardtime_write_drop);
+NOTED(boardtime_write_read);
+NOTED(boardtime_write_waiting);
+NOTED(boardtime_plain);
+
 static void call_fresh(void)
 {
-    NOTE_TOP();
-    returned = boardtime_fresh(image, sizeof image);
+    returned = noted_boardtime_fresh(image, sizeof image);
 }
 
 static void call_pass(void)
 {
-    NOTE_TOP();
-    returned = boardtime_pass(image, sizeof image, ticks);
+    returned = noted_boardtime_pass(image, sizeof image, ticks);
 }
 
 static void call_line(void)
 {
-    NOTE_TOP();
-    returned = boardtime_line(image, sizeof image, line, line_length, out,
-                              sizeof out);
+    returned = noted_boardtime_line(image, sizeof image, line, line_length, out,
+                                    sizeof out);
+}
+
+static void call_write_start(void)
+{
+    returned = noted_boardtime_write_start(out, out_length, board, rule, claim,
+                                           lower, upper);
+}
+
+static void call_write_pass(void)
+{
+    returned = noted_boardtime_write_pass(out, out_length, ticks);
+}
+
+static void call_write_request(void)
+{
+    returned = noted_boardtime_write_request(out, out_length, board);
+}
+
+static void call_write_reply(void)
+{
+    returned = noted_boardtime_write_reply(out, out_length, board, tag, lower,
+                                           upper);
+}
+
+static void call_write_drop(void)
+{
+    returned = noted_boardtime_write_drop(out, out_length, board);
+}
+
+static void call_write_read(void)
+{
+    returned = noted_boardtime_write_read(out, out_length);
+}
+
+static void call_write_waiting(void)
+{
+    returned = noted_boardtime_write_waiting(out, out_length);
+}
+
+static void call_plain(void)
+{
+    returned = noted_boardtime_plain(line, line_length, out, out_length);
 }
 
 /* How far down a call goes on a stack that is painted in this colour. */
@@ -84,8 +145,30 @@ static void measure(void (*call)(void), size_t *most)
         *most = second;
 }
 
-static size_t fresh_most, pass_most, line_most;
+static size_t fresh_most, pass_most, line_most, plain_most;
 static unsigned seen;   /* a bit for each number that a line was answered with */
+
+/* The numbers that a command without and one with numbers can be given. */
+#define BARE (1u << BOARDTIME_ACCEPTED | 1u << BOARDTIME_SHORT_OUTPUT)
+#define NUMBERED (BARE | 1u << BOARDTIME_OUTSIDE_RANGE)
+
+/* The calls that write a command. */
+static struct {
+    const char *name;
+    void (*call)(void);
+    unsigned numbers;   /* a bit for each that it can return */
+    unsigned seen;      /* and for each that it did */
+    size_t most;
+} writers[] = {
+    {"boardtime_write_start", call_write_start, NUMBERED, 0, 0},
+    {"boardtime_write_pass", call_write_pass, NUMBERED, 0, 0},
+    {"boardtime_write_request", call_write_request, NUMBERED, 0, 0},
+    {"boardtime_write_reply", call_write_reply, NUMBERED, 0, 0},
+    {"boardtime_write_drop", call_write_drop, NUMBERED, 0, 0},
+    {"boardtime_write_read", call_write_read, BARE, 0, 0},
+    {"boardtime_write_waiting", call_write_waiting, BARE, 0, 0},
+};
+#define WRITERS (sizeof writers / sizeof writers[0])
 
 static void begin(void)
 {
@@ -102,8 +185,18 @@ static void answer(const char *text)
 {
     line = (const uint8_t *)text;
     line_length = strlen(text);
+    measure(call_plain, &plain_most);
     measure(call_line, &line_most);
     seen |= 1u << BOARDTIME_NUMBER(returned);
+}
+
+/* Every command with the numbers as they are set. */
+static void write_all(void)
+{
+    for (size_t i = 0; i < WRITERS; i++) {
+        measure(writers[i].call, &writers[i].most);
+        writers[i].seen |= 1u << BOARDTIME_NUMBER(returned);
+    }
 }
 
 /* Every command, accepted and refused, under one rule. */
@@ -165,6 +258,29 @@ static void ends(void)
     answer("(reply 4 1 (-4000000000000000000 -3999999999999999999))");
 }
 
+/* Commands with the longest and the shortest numerals, then with one number
+   after the other outside its range, and without room for a line. */
+static void written(void)
+{
+    board = 15, rule = BOARDTIME_MM, claim = 50000, tag = 16777215;
+    ticks = 86400000;
+    lower = INT64_C(-4000000000000000000), upper = INT64_C(-3999999999999999999);
+    write_all();
+    upper = lower - 1;
+    write_all();
+    lower = upper = 0;
+    claim = tag = UINT64_MAX, ticks = 86400001;
+    write_all();
+    board = 16;
+    write_all();
+    board = 0, rule = BOARDTIME_IM, claim = 0, tag = 1, ticks = 0;
+    write_all();
+    out_length = 0;
+    write_all();
+    measure(call_plain, &plain_most);
+    out_length = sizeof out;
+}
+
 int main(void)
 {
     commands("(start 3 im 200 (-1000 1000))");
@@ -176,7 +292,17 @@ int main(void)
         printf("not every number from 0 to 9 was seen: %x\n", seen);
         return 1;
     }
+    written();
+    for (size_t i = 0; i < WRITERS; i++)
+        if (writers[i].seen != writers[i].numbers) {
+            printf("not every number of %s was seen: %x\n", writers[i].name,
+                   writers[i].seen);
+            return 1;
+        }
     printf("boardtime_fresh %zu\nboardtime_pass %zu\nboardtime_line %zu\n",
            fresh_most, pass_most, line_most);
+    for (size_t i = 0; i < WRITERS; i++)
+        printf("%s %zu\n", writers[i].name, writers[i].most);
+    printf("boardtime_plain %zu\n", plain_most);
     return 0;
 }

@@ -1,7 +1,8 @@
-//! The commands: their shapes and the ranges of their numerals.
+//! The commands: their shapes and the ranges of their numbers.
 //!
 //! A wrong shape comes before a numeral outside its range, so each reading
-//! function first takes the whole line and only then tests the numerals.
+//! function first takes the whole line and only then makes the command, which
+//! tests the numbers.
 
 use crate::interval::Interval;
 use crate::keeper::Rule;
@@ -9,7 +10,7 @@ use crate::limits::{BOARDS, MAX_CLAIM, MAX_LINE, MAX_PASS, MAX_REQUESTS};
 use crate::reader::Reader;
 use crate::refusal::Refusal;
 
-/// A line that has a command shape and numerals within their ranges.
+/// A command with numbers within their ranges.
 pub enum Command {
     Start(Start),
     Pass { ticks: u64 },
@@ -44,13 +45,11 @@ impl Command {
         if reader.take(b"(pass ") {
             read_pass(reader)
         } else if reader.take(b"(request ") {
-            let peer = read_peer(reader)?;
-            Ok(Command::Request { peer })
+            Command::request(read_peer(reader)?)
         } else if reader.take(b"(reply ") {
             read_reply(reader)
         } else if reader.take(b"(drop ") {
-            let peer = read_peer(reader)?;
-            Ok(Command::Drop { peer })
+            Command::drop_request(read_peer(reader)?)
         } else if reader.take(b"(start ") {
             read_start(reader)
         } else if line == b"(read)" {
@@ -61,21 +60,64 @@ impl Command {
             Err(Refusal::Shape)
         }
     }
+
+    // The functions below make a command of numbers that are not tested yet.
+    // They take them in 64 bits, so that no number is cut before its test.
+
+    pub fn start(
+        board: u64,
+        rule: Rule,
+        claim: u64,
+        interval: Interval,
+    ) -> Result<Command, Refusal> {
+        Ok(Command::Start(Start {
+            board: board_number(board)?,
+            rule,
+            claim: at_most(claim, u64::from(MAX_CLAIM))? as u16,
+            interval: valid(interval)?,
+        }))
+    }
+
+    pub fn pass(ticks: u64) -> Result<Command, Refusal> {
+        let ticks = at_most(ticks, MAX_PASS)?;
+        Ok(Command::Pass { ticks })
+    }
+
+    pub fn request(peer: u64) -> Result<Command, Refusal> {
+        let peer = board_number(peer)?;
+        Ok(Command::Request { peer })
+    }
+
+    pub fn reply(peer: u64, tag: u64, interval: Interval) -> Result<Command, Refusal> {
+        // The first request has tag 1.
+        if tag == 0 {
+            return Err(Refusal::Range);
+        }
+        Ok(Command::Reply(Reply {
+            peer: board_number(peer)?,
+            tag: at_most(tag, u64::from(MAX_REQUESTS))? as u32,
+            interval: valid(interval)?,
+        }))
+    }
+
+    pub fn drop_request(peer: u64) -> Result<Command, Refusal> {
+        let peer = board_number(peer)?;
+        Ok(Command::Drop { peer })
+    }
 }
 
 /// `TICKS)`
 fn read_pass(mut reader: Reader) -> Result<Command, Refusal> {
     let ticks = reader.count()?;
     reader.finish(b")")?;
-    let ticks = at_most(ticks, MAX_PASS)?;
-    Ok(Command::Pass { ticks })
+    Command::pass(ticks)
 }
 
 /// `PEER)`
-fn read_peer(mut reader: Reader) -> Result<u8, Refusal> {
+fn read_peer(mut reader: Reader) -> Result<u64, Refusal> {
     let peer = reader.count()?;
     reader.finish(b")")?;
-    board_number(peer)
+    Ok(peer)
 }
 
 /// `PEER TAG (TRAILING LEADING))`
@@ -84,17 +126,7 @@ fn read_reply(mut reader: Reader) -> Result<Command, Refusal> {
     reader.expect(b" ")?;
     let tag = reader.count()?;
     let interval = reader.finish_with_interval()?;
-
-    let peer = board_number(peer)?;
-    let tag = at_most(tag, u64::from(MAX_REQUESTS))? as u32;
-    if tag == 0 || !interval.is_valid() {
-        return Err(Refusal::Range);
-    }
-    Ok(Command::Reply(Reply {
-        peer,
-        tag,
-        interval,
-    }))
+    Command::reply(peer, tag, interval)
 }
 
 /// `BOARD RULE CLAIM (LOWER UPPER))`
@@ -108,18 +140,7 @@ fn read_start(mut reader: Reader) -> Result<Command, Refusal> {
     };
     let claim = reader.count()?;
     let interval = reader.finish_with_interval()?;
-
-    let board = board_number(board)?;
-    let claim = at_most(claim, u64::from(MAX_CLAIM))? as u16;
-    if !interval.is_valid() {
-        return Err(Refusal::Range);
-    }
-    Ok(Command::Start(Start {
-        board,
-        rule,
-        claim,
-        interval,
-    }))
+    Command::start(board, rule, claim, interval)
 }
 
 fn board_number(value: u64) -> Result<u8, Refusal> {
@@ -131,6 +152,14 @@ fn board_number(value: u64) -> Result<u8, Refusal> {
 fn at_most(value: u64, limit: u64) -> Result<u64, Refusal> {
     if value <= limit {
         Ok(value)
+    } else {
+        Err(Refusal::Range)
+    }
+}
+
+fn valid(interval: Interval) -> Result<Interval, Refusal> {
+    if interval.is_valid() {
+        Ok(interval)
     } else {
         Err(Refusal::Range)
     }

@@ -1,6 +1,6 @@
 //! The board's time keeper: an interval of moments that is known to contain
 //! the true time, kept up to date from ticks of the board's counter and from
-//! replies of other boards.
+//! replies of other boards. Also the calls that write a command as its line.
 //!
 //! Written from the specification alone. The library needs no heap and no
 //! operating system.
@@ -17,8 +17,14 @@ mod keeper;
 pub mod limits;
 mod reader;
 mod refusal;
+mod spelling;
+mod uplink;
 mod writer;
 
 pub use answer::{answer_line, pass, Answered};
 pub use image::{answer_image, fresh_image, pass_image, IMAGE_LENGTH, WRONG_LENGTH};
 pub use keeper::{Keeper, Rule};
+pub use uplink::{
+    plain, write_drop, write_pass, write_read, write_reply, write_request, write_start,
+    write_waiting, Written,
+};

@@ -1,4 +1,4 @@
-//! Writing an answer into the output that a caller lends.
+//! Writing an answer or a command into the output that a caller lends.
 
 use crate::interval::Interval;
 use crate::limits::MIN_OUTPUT;
@@ -49,8 +49,8 @@ impl<'a> Writer<'a> {
         self.text(b")");
     }
 
-    /// The next `count` bytes of the output. The longest answer has 211 bytes,
-    /// so they are always there.
+    /// The next `count` bytes of the output. The longest answer has 211 bytes
+    /// and the longest command 63, so they are always there.
     fn next(&mut self, count: usize) -> &mut [u8] {
         let from = self.length;
         self.length += count;

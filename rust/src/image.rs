@@ -1,18 +1,11 @@
 //! The calls of the library on an image that may have any length, as
 //! `include/boardtime.h` declares them but with slices.
 
+pub use crate::returned::Returned;
+
 /// The number that a call returns if the image is not 232 bytes long. Nothing
 /// is touched then.
 pub const WRONG_LENGTH: u8 = 255;
-
-/// What a call with a line returns.
-#[derive(Clone, Copy, PartialEq, Eq, Debug)]
-pub struct Returned {
-    /// 0 for an accepted line, the number of the refusal, or `WRONG_LENGTH`.
-    pub number: u8,
-    /// Length of the answer with its LF; 0 for the numbers 10 and 255.
-    pub length: usize,
-}
 
 mod foreign {
     extern "C" {
@@ -36,12 +29,13 @@ pub fn fresh(image: &mut [u8]) -> u8 {
     unsafe { foreign::boardtime_fresh(image.as_mut_ptr(), image.len()) }
 }
 
-/// Answers one line, given without its LF, at the front of `out`.
+/// Answers one line, given without its LF, at the front of `out`. Returns 0, 1
+/// to 10, or `WRONG_LENGTH`; 10 and `WRONG_LENGTH` come with length 0.
 pub fn line(image: &mut [u8], line: &[u8], out: &mut [u8]) -> Returned {
     // SAFETY: the pointers of the slices are not null and each is valid for
     // its length. The image and the output are borrowed mutably, so neither
     // overlaps another slice.
-    let returned = unsafe {
+    Returned::from_whole(unsafe {
         foreign::boardtime_line(
             image.as_mut_ptr(),
             image.len(),
@@ -50,13 +44,7 @@ pub fn line(image: &mut [u8], line: &[u8], out: &mut [u8]) -> Returned {
             out.as_mut_ptr(),
             out.len(),
         )
-    };
-    let [number, ..] = returned.to_le_bytes();
-    Returned {
-        number,
-        // No bit is lost: a usize has 64 on the one target of the library.
-        length: (returned >> 8) as usize,
-    }
+    })
 }
 
 /// Lets ticks pass; more than 86400000 are refused with 2. Returns 0, 2, 3, 5

@@ -1,15 +1,21 @@
 //! The time keeper of a board, over the proved static library `boardtime_lib`.
 //!
 //! ```
-//! use boardtime::{Keeper, Refusal, OUTPUT_BYTES};
+//! use boardtime::{Command, Keeper, Refusal, Rule, OUTPUT_BYTES};
+//!
+//! let mut line = [0; OUTPUT_BYTES];
+//! let mut out = [0; OUTPUT_BYTES];
+//! let start = Command::Start { board: 3, rule: Rule::Im, claim: 200, lower: -1000, upper: 1000 };
+//! let line = start.write(&mut line)?;
+//! assert_eq!(line, b"(start 3 im 200 (-1000 1000))");
 //!
 //! let mut keeper = Keeper::fresh();
-//! let mut out = [0; OUTPUT_BYTES];
-//! let answer = keeper.answer(b"(start 3 im 200 (-1000 1000))", &mut out);
+//! let answer = keeper.answer(line, &mut out);
 //! assert_eq!(answer.number, 0);
 //! assert_eq!(answer.bytes, b"(started 3)\n");
 //! assert_eq!(keeper.pass(10), Ok(()));
 //! assert_eq!(keeper.pass(86_400_001), Err(Refusal::OutsideRange));
+//! # Ok::<(), Refusal>(())
 //! ```
 //!
 //! The crate needs no heap. The library is an archive for x86-64 Linux, and for
@@ -17,15 +23,20 @@
 
 #![no_std]
 
+mod command;
 pub mod image;
+pub mod lines;
 mod refusal;
+mod returned;
 
+pub use command::{plain, Command, Rule};
 pub use refusal::Refusal;
 
 /// Length of an image.
 pub const IMAGE_BYTES: usize = 232;
 
-/// Least length of the output for a line. No answer is longer.
+/// Least length of the output of a call. No answer is longer, and no line that
+/// is written.
 pub const OUTPUT_BYTES: usize = 256;
 
 /// Greatest length of a line without its LF; a longer one is refused with 1.

@@ -9,7 +9,7 @@ use core::fmt;
 pub enum Refusal {
     /// The line has no command's shape, or is longer than 120 bytes.
     NoShape = 1,
-    /// A numeral is outside its range, or a first edge is above the second.
+    /// A number is outside its range, or a first edge is above the second.
     OutsideRange = 2,
     /// A start after a start, or another call before one.
     WrongOrder = 3,
@@ -45,7 +45,8 @@ impl fmt::Display for Refusal {
 
 impl Error for Refusal {}
 
-/// The result for a number that a call on an image of 232 bytes returns.
+/// The result for a number that a call returns, if it has no image or one of
+/// 232 bytes.
 pub(crate) fn result(number: u8) -> Result<(), Refusal> {
     match number {
         0 => Ok(()),
@@ -59,6 +60,6 @@ pub(crate) fn result(number: u8) -> Result<(), Refusal> {
         8 => Err(Refusal::TooLate),
         9 => Err(Refusal::TagsSpent),
         10 => Err(Refusal::ShortOutput),
-        _ => unreachable!("the library returned {number} for an image of the right length"),
+        _ => unreachable!("the library returned {number}, which is no refusal's number"),
     }
 }

@@ -1,7 +1,7 @@
 //! The constants of this crate are those of the header, which
 //! `examples/c/constants.c` holds against the library.
 
-use boardtime::{image, Refusal, IMAGE_BYTES, LINE_BYTES, OUTPUT_BYTES};
+use boardtime::{image, Refusal, Rule, IMAGE_BYTES, LINE_BYTES, OUTPUT_BYTES};
 
 const HEADER: &str = include_str!("../../include/boardtime.h");
 
@@ -34,6 +34,7 @@ fn constants_are_those_of_the_header() {
     ];
     ours.extend(REFUSALS.map(|(name, refusal)| (name, refusal.number().into())));
     ours.push(("WRONG_IMAGE_LENGTH", image::WRONG_LENGTH.into()));
+    ours.extend([("IM", Rule::Im as usize), ("MM", Rule::Mm as usize)]);
     let header: Vec<_> = HEADER.lines().filter_map(constant).collect();
     // The same names too: neither side has a number that the other lacks.
     assert_eq!(ours, header);
@@ -42,7 +43,7 @@ fn constants_are_those_of_the_header() {
 /// Each declaration of the header beside the one that Rust calls by. A type
 /// that is too narrow in one of them need not show in any call: what is in the
 /// rest of a register is left open.
-const DECLARATIONS: [(&str, &str); 3] = [
+const DECLARATIONS: [(&str, &str); 11] = [
     (
         "uint8_t boardtime_fresh(uint8_t *image, size_t image_length);",
         "pub fn boardtime_fresh(image: *mut u8, image_length: usize) -> u8;",
@@ -57,6 +58,44 @@ const DECLARATIONS: [(&str, &str); 3] = [
         "uint8_t boardtime_pass(uint8_t *image, size_t image_length, uint64_t ticks);",
         "pub fn boardtime_pass(image: *mut u8, image_length: usize, ticks: u64) -> u8;",
     ),
+    (
+        "uint32_t boardtime_write_start(uint8_t *out, size_t out_length, uint64_t board, \
+         uint64_t rule, uint64_t claim, int64_t lower, int64_t upper);",
+        "pub fn boardtime_write_start( out: *mut u8, out_length: usize, board: u64, \
+         rule: u64, claim: u64, lower: i64, upper: i64, ) -> u32;",
+    ),
+    (
+        "uint32_t boardtime_write_pass(uint8_t *out, size_t out_length, uint64_t ticks);",
+        "pub fn boardtime_write_pass(out: *mut u8, out_length: usize, ticks: u64) -> u32;",
+    ),
+    (
+        "uint32_t boardtime_write_request(uint8_t *out, size_t out_length, uint64_t peer);",
+        "pub fn boardtime_write_request(out: *mut u8, out_length: usize, peer: u64) -> u32;",
+    ),
+    (
+        "uint32_t boardtime_write_reply(uint8_t *out, size_t out_length, uint64_t peer, \
+         uint64_t tag, int64_t trailing, int64_t leading);",
+        "pub fn boardtime_write_reply( out: *mut u8, out_length: usize, peer: u64, \
+         tag: u64, trailing: i64, leading: i64, ) -> u32;",
+    ),
+    (
+        "uint32_t boardtime_write_drop(uint8_t *out, size_t out_length, uint64_t peer);",
+        "pub fn boardtime_write_drop(out: *mut u8, out_length: usize, peer: u64) -> u32;",
+    ),
+    (
+        "uint32_t boardtime_write_read(uint8_t *out, size_t out_length);",
+        "pub fn boardtime_write_read(out: *mut u8, out_length: usize) -> u32;",
+    ),
+    (
+        "uint32_t boardtime_write_waiting(uint8_t *out, size_t out_length);",
+        "pub fn boardtime_write_waiting(out: *mut u8, out_length: usize) -> u32;",
+    ),
+    (
+        "uint32_t boardtime_plain(const uint8_t *line, size_t line_length, \
+         uint8_t *out, size_t out_length);",
+        "pub fn boardtime_plain( line: *const u8, line_length: usize, \
+         out: *mut u8, out_length: usize, ) -> u32;",
+    ),
 ];
 
 #[test]
@@ -64,9 +103,15 @@ fn declarations_are_those_of_the_header() {
     // Wherever the lines are broken.
     let words = |text: &str| text.split_whitespace().collect::<Vec<_>>().join(" ");
     let header = words(HEADER);
-    let foreign = words(include_str!("../src/image.rs"));
+    let foreign = words(concat!(
+        include_str!("../src/image.rs"),
+        include_str!("../src/lines.rs")
+    ));
     for (in_c, in_rust) in DECLARATIONS {
         assert!(header.contains(in_c), "the header has no {in_c}");
-        assert!(foreign.contains(in_rust), "image.rs has no {in_rust}");
+        assert!(foreign.contains(in_rust), "the crate has no {in_rust}");
     }
+    // No declaration is left out above.
+    assert_eq!(header.matches("_t boardtime_").count(), DECLARATIONS.len());
+    assert_eq!(foreign.matches("fn boardtime_").count(), DECLARATIONS.len());
 }

@@ -12,6 +12,7 @@ mod program;
 mod sessions;
 mod states;
 mod waits;
+mod writes;
 
 use crate::test::Test;
 
@@ -27,4 +28,5 @@ pub fn run_all(test: &mut Test) {
     images::run(test);
     passes::run(test);
     program::run(test);
+    writes::run(test);
 }

@@ -6,17 +6,17 @@ use independent::{answer_image, answer_line, Keeper, Rule};
 use crate::caller::ask;
 
 /// Xorshift generator, enough for tests.
-struct Random(u64);
+pub struct Random(pub u64);
 
 impl Random {
-    fn next(&mut self) -> u64 {
+    pub fn next(&mut self) -> u64 {
         self.0 ^= self.0 << 13;
         self.0 ^= self.0 >> 7;
         self.0 ^= self.0 << 17;
         self.0
     }
 
-    fn below(&mut self, limit: u64) -> u64 {
+    pub fn below(&mut self, limit: u64) -> u64 {
         self.next() % limit
     }
 
@@ -26,7 +26,7 @@ impl Random {
 }
 
 /// A random change of a valid command.
-fn random_line(random: &mut Random) -> Vec<u8> {
+pub fn random_line(random: &mut Random) -> Vec<u8> {
     let mut line = random
         .pick(&[
             "(start 3 im 200 (-1000 1000))",

@@ -1,0 +1,54 @@
+//! The line of a command, without an LF.
+//!
+//! A command holds only numbers within their ranges, so every line written
+//! here is read as the same command again.
+
+use crate::command::{Command, Reply, Start};
+use crate::keeper::Rule;
+use crate::writer::Writer;
+
+impl Command {
+    pub fn write(&self, writer: &mut Writer) {
+        match self {
+            Command::Start(start) => write_start(start, writer),
+            Command::Pass { ticks } => write_one(b"(pass ", *ticks, writer),
+            Command::Request { peer } => write_one(b"(request ", u64::from(*peer), writer),
+            Command::Reply(reply) => write_reply(reply, writer),
+            Command::Drop { peer } => write_one(b"(drop ", u64::from(*peer), writer),
+            Command::Read => writer.text(b"(read)"),
+            Command::Waiting => writer.text(b"(waiting)"),
+        }
+    }
+}
+
+/// A form with one number, which `opening` precedes.
+fn write_one<const N: usize>(opening: &[u8; N], number: u64, writer: &mut Writer) {
+    writer.text(opening);
+    writer.count(number);
+    writer.text(b")");
+}
+
+/// `(start BOARD RULE CLAIM (LOWER UPPER))`
+fn write_start(start: &Start, writer: &mut Writer) {
+    writer.text(b"(start ");
+    writer.count(u64::from(start.board));
+    match start.rule {
+        Rule::Im => writer.text(b" im "),
+        Rule::Mm => writer.text(b" mm "),
+    }
+    writer.count(u64::from(start.claim));
+    writer.text(b" ");
+    writer.interval(start.interval);
+    writer.text(b")");
+}
+
+/// `(reply PEER TAG (TRAILING LEADING))`
+fn write_reply(reply: &Reply, writer: &mut Writer) {
+    writer.text(b"(reply ");
+    writer.count(u64::from(reply.peer));
+    writer.text(b" ");
+    writer.count(u64::from(reply.tag));
+    writer.text(b" ");
+    writer.interval(reply.interval);
+    writer.text(b")");
+}

@@ -1,0 +1,142 @@
+//! Commands that are written and read again, and commands compared by their
+//! lines.
+
+use std::collections::{HashMap, HashSet};
+
+use independent::{Keeper, Rule};
+
+use crate::caller::ask;
+use crate::order::{samples, spelled, written, Order, END};
+use crate::random::Random;
+
+/// A keeper of another board than `peer`, with edges that cover the range.
+fn wide(peer: u64) -> Keeper {
+    let mut keeper = Keeper::fresh();
+    keeper.started = true;
+    keeper.board = (peer as u8 + 1) % 16;
+    (keeper.lower, keeper.upper) = (-END, END);
+    keeper
+}
+
+/// Checks that the line is read as this command. Each is asked of a keeper
+/// that answers otherwise if any number of the command differs.
+fn check_reading(order: Order, line: &str) {
+    let (mut keeper, answer) = match order {
+        Order::Start(board, ..) => (Keeper::fresh(), format!("(started {board})")),
+        Order::Pass(ticks) => {
+            let mut keeper = wide(0);
+            (keeper.lower, keeper.upper) = (0, 0);
+            let edge = ticks * 1_000_000;
+            (keeper, format!("(at {ticks} ({edge} {edge}))"))
+        }
+        Order::Request(peer) => (wide(peer), format!("(sent {peer} 1)")),
+        Order::Reply(peer, tag, trailing, leading) => (
+            waiting_for(peer, tag as u32),
+            format!("(taken {peer} ({trailing} {leading}))"),
+        ),
+        Order::Drop(peer) => (waiting_for(peer, 1), format!("(dropped {peer})")),
+        Order::Read => (wide(0), format!("(time ({} {END}) (0 {END}) 0 0)", -END)),
+        Order::Waiting => (waiting_for(5, 9), "(waiting (5 9))".into()),
+    };
+    assert_eq!(ask(&mut keeper, line), answer, "{line}");
+    if let Order::Start(board, rule, claim, lower, upper) = order {
+        let expected = Keeper {
+            started: true,
+            board: board as u8,
+            rule: [Rule::Im, Rule::Mm][rule as usize],
+            claim: claim as u16,
+            lower,
+            upper,
+            ..Keeper::fresh()
+        };
+        assert_eq!(keeper, expected);
+    }
+}
+
+/// A wide keeper with one request waiting. Under rule im, and with no tick
+/// since the request, it takes over the edges of the reply.
+fn waiting_for(peer: u64, tag: u32) -> Keeper {
+    let mut keeper = wide(peer);
+    keeper.requests = tag;
+    keeper.waiting = 1 << peer;
+    keeper.tags[peer as usize] = tag;
+    keeper
+}
+
+/// Two moments of every size, in order.
+fn random_edges(random: &mut Random) -> (i64, i64) {
+    let mut edge = || {
+        let bits = random.below(64);
+        (random.next() as i64 >> bits).clamp(-END, END)
+    };
+    let (first, second) = (edge(), edge());
+    (first.min(second), first.max(second))
+}
+
+/// A random command with numbers in their ranges.
+fn random_order(random: &mut Random) -> Order {
+    let (first, second) = random_edges(random);
+    let board = random.below(16);
+    match random.below(6) {
+        0 | 1 => Order::Start(board, random.below(2), random.below(50_001), first, second),
+        2 => Order::Pass(random.below(86_400_001)),
+        3 => Order::Request(board),
+        4 => Order::Reply(board, random.below(16_777_215) + 1, first, second),
+        _ => Order::Drop(board),
+    }
+}
+
+/// The samples that are allowed, and random commands.
+fn allowed_orders() -> Vec<Order> {
+    let mut orders = samples();
+    orders.retain(|order| order.is_allowed());
+    let mut random = Random(0x0F1E_2D3C_4B5A_6978);
+    orders.extend((0..20_000).map(|_| random_order(&mut random)));
+    orders
+}
+
+#[test]
+fn a_command_written_and_read_is_the_same_command() {
+    for order in allowed_orders() {
+        let line = written(order).expect("a line");
+        assert_eq!(line, order.line());
+        check_reading(order, &line);
+        assert_eq!(spelled(&line), Ok(line));
+    }
+}
+
+#[test]
+fn every_small_number() {
+    for ticks in 0..20_000 {
+        assert_eq!(written(Order::Pass(ticks)), Ok(format!("(pass {ticks})")));
+    }
+    for board in 0..16 {
+        for order in [
+            Order::Request(board),
+            Order::Drop(board),
+            Order::Start(board, 1, 0, -7, 7),
+            Order::Reply(board, 12, -7, 7),
+        ] {
+            check_reading(order, &written(order).expect("a line"));
+        }
+    }
+    for claim in 0..=50_000 {
+        let line = written(Order::Start(1, 0, claim, 0, 0));
+        assert_eq!(line, Ok(format!("(start 1 im {claim} (0 0))")));
+    }
+}
+
+#[test]
+fn lines_are_equal_exactly_when_the_commands_are() {
+    let orders = allowed_orders();
+    let mut lines: HashMap<String, Order> = HashMap::new();
+    for &order in &orders {
+        let line = written(order).expect("a line");
+        let other = lines.entry(line).or_insert(order);
+        assert_eq!(*other, order);
+    }
+    // With more lines than commands, a command would have two of them.
+    let different: HashSet<Order> = orders.into_iter().collect();
+    assert_eq!(lines.len(), different.len());
+    assert!(lines.len() > 10_000, "{}", lines.len());
+}

@@ -1,0 +1,110 @@
+//! Last allowed and first refused values of every number of a command that is
+//! written.
+
+use crate::order::{written, Order, END};
+
+fn assert_allowed(order: Order, line: &str) {
+    assert_eq!(written(order).as_deref(), Ok(line));
+}
+
+fn assert_refused(order: Order) {
+    assert_eq!(written(order), Err(2), "{order:?}");
+}
+
+#[test]
+fn board_and_peer() {
+    for board in [0, 15] {
+        assert_allowed(
+            Order::Start(board, 0, 0, 0, 0),
+            &format!("(start {board} im 0 (0 0))"),
+        );
+        assert_allowed(Order::Request(board), &format!("(request {board})"));
+        assert_allowed(
+            Order::Reply(board, 1, 0, 0),
+            &format!("(reply {board} 1 (0 0))"),
+        );
+        assert_allowed(Order::Drop(board), &format!("(drop {board})"));
+    }
+    for board in [16, 255, 256, 65_536, 1 << 32, 1 << 63, u64::MAX] {
+        assert_refused(Order::Start(board, 0, 0, 0, 0));
+        assert_refused(Order::Request(board));
+        assert_refused(Order::Reply(board, 1, 0, 0));
+        assert_refused(Order::Drop(board));
+    }
+}
+
+#[test]
+fn rule() {
+    assert_allowed(Order::Start(0, 0, 0, 0, 0), "(start 0 im 0 (0 0))");
+    assert_allowed(Order::Start(0, 1, 0, 0, 0), "(start 0 mm 0 (0 0))");
+    for rule in [2, 255, 256, 257, 65_536, 1 << 32, u64::MAX] {
+        assert_refused(Order::Start(0, rule, 0, 0, 0));
+    }
+}
+
+#[test]
+fn claim() {
+    assert_allowed(Order::Start(0, 0, 0, 0, 0), "(start 0 im 0 (0 0))");
+    assert_allowed(Order::Start(0, 0, 50_000, 0, 0), "(start 0 im 50000 (0 0))");
+    for claim in [50_001, 65_535, 65_536, 1 << 32, u64::MAX] {
+        assert_refused(Order::Start(0, 0, claim, 0, 0));
+    }
+}
+
+#[test]
+fn ticks() {
+    assert_allowed(Order::Pass(0), "(pass 0)");
+    assert_allowed(Order::Pass(86_400_000), "(pass 86400000)");
+    for ticks in [86_400_001, 1 << 32, 1 << 63, u64::MAX] {
+        assert_refused(Order::Pass(ticks));
+    }
+}
+
+#[test]
+fn tag() {
+    assert_allowed(Order::Reply(0, 1, 0, 0), "(reply 0 1 (0 0))");
+    assert_allowed(
+        Order::Reply(0, 16_777_215, 0, 0),
+        "(reply 0 16777215 (0 0))",
+    );
+    for tag in [0, 16_777_216, 1 << 32, (1 << 32) + 1, u64::MAX] {
+        assert_refused(Order::Reply(0, tag, 0, 0));
+    }
+}
+
+#[test]
+fn edges() {
+    for (first, second) in [(-END, -END), (-END, END), (END, END), (0, 0), (-1, 0)] {
+        assert_allowed(
+            Order::Start(0, 0, 0, first, second),
+            &format!("(start 0 im 0 ({first} {second}))"),
+        );
+        assert_allowed(
+            Order::Reply(0, 1, first, second),
+            &format!("(reply 0 1 ({first} {second}))"),
+        );
+    }
+    for (first, second) in [
+        (-END - 1, -END),
+        (-END - 1, 0),
+        (-END - 1, -END - 1),
+        (END, END + 1),
+        (0, END + 1),
+        (END + 1, END + 1),
+        (i64::MIN, i64::MIN),
+        (i64::MIN, i64::MAX),
+        (i64::MIN, 0),
+        (0, i64::MAX),
+        (i64::MAX, i64::MAX),
+        // First above second.
+        (1, 0),
+        (0, -1),
+        (END, END - 1),
+        (-END + 1, -END),
+        (END, -END),
+        (i64::MAX, i64::MIN),
+    ] {
+        assert_refused(Order::Start(0, 0, 0, first, second));
+        assert_refused(Order::Reply(0, 1, first, second));
+    }
+}

@@ -1,0 +1,116 @@
+//! Commands, written as the lines that a keeper answers.
+
+use crate::lines::{self, Returned};
+use crate::refusal::{self, Refusal};
+
+/// The rule of a start. The value of each is its number in an image.
+#[derive(Clone, Copy, PartialEq, Eq, Hash, Debug)]
+#[repr(u8)]
+pub enum Rule {
+    /// `im`
+    Im = 0,
+    /// `mm`
+    Mm = 1,
+}
+
+/// A command. Its numbers may be any; those outside their ranges are refused
+/// when it is written.
+#[derive(Clone, Copy, PartialEq, Eq, Hash, Debug)]
+pub enum Command {
+    /// `(start BOARD RULE CLAIM (LOWER UPPER))`: a board of 0 to 15, a claim of
+    /// 0 to 50000, edges from -4000000000000000000 through
+    /// 4000000000000000000, the lower at most the upper.
+    Start {
+        board: u64,
+        rule: Rule,
+        claim: u64,
+        lower: i64,
+        upper: i64,
+    },
+    /// `(pass TICKS)`: 0 to 86400000.
+    Pass { ticks: u64 },
+    /// `(request PEER)`: 0 to 15.
+    Request { peer: u64 },
+    /// `(reply PEER TAG (TRAILING LEADING))`: a peer of 0 to 15, a tag of 1 to
+    /// 16777215, edges as those of a start.
+    Reply {
+        peer: u64,
+        tag: u64,
+        trailing: i64,
+        leading: i64,
+    },
+    /// `(drop PEER)`: 0 to 15.
+    Drop { peer: u64 },
+    /// `(read)`
+    Read,
+    /// `(waiting)`
+    Waiting,
+}
+
+impl Command {
+    /// Writes the command's line, without an LF, at the front of `out`. No byte
+    /// of `out` after the line is touched. A keeper answers the line as it
+    /// stands; the program takes it with an LF behind it.
+    ///
+    /// Refused with `ShortOutput` if `out` is shorter than `OUTPUT_BYTES`, else
+    /// with `OutsideRange` if a number is outside its range or a first edge is
+    /// above the second. `out` is then as it was.
+    ///
+    /// ```
+    /// use boardtime::{Command, Refusal, OUTPUT_BYTES};
+    ///
+    /// let mut out = [0; OUTPUT_BYTES];
+    /// let reply = Command::Reply { peer: 4, tag: 1, trailing: -5, leading: 2 };
+    /// assert_eq!(reply.write(&mut out), Ok(&b"(reply 4 1 (-5 2))"[..]));
+    /// let request = Command::Request { peer: 256 };
+    /// assert_eq!(request.write(&mut out), Err(Refusal::OutsideRange));
+    /// ```
+    pub fn write<'a>(&self, out: &'a mut [u8]) -> Result<&'a [u8], Refusal> {
+        let returned = match *self {
+            Command::Start {
+                board,
+                rule,
+                claim,
+                lower,
+                upper,
+            } => lines::write_start(out, board, rule as u64, claim, lower, upper),
+            Command::Pass { ticks } => lines::write_pass(out, ticks),
+            Command::Request { peer } => lines::write_request(out, peer),
+            Command::Reply {
+                peer,
+                tag,
+                trailing,
+                leading,
+            } => lines::write_reply(out, peer, tag, trailing, leading),
+            Command::Drop { peer } => lines::write_drop(out, peer),
+            Command::Read => lines::write_read(out),
+            Command::Waiting => lines::write_waiting(out),
+        };
+        written(returned, out)
+    }
+}
+
+/// Reads a line, given without its LF, and writes its command as
+/// `Command::write` does: the line's plain spelling. For every line that can be
+/// read today that is the line itself.
+///
+/// Refused with `ShortOutput` if `out` is shorter than `OUTPUT_BYTES`, else with
+/// `NoShape` or `OutsideRange` for what is wrong with the line. `out` is then as
+/// it was.
+///
+/// ```
+/// use boardtime::{plain, Refusal, OUTPUT_BYTES};
+///
+/// let mut out = [0; OUTPUT_BYTES];
+/// assert_eq!(plain(b"(pass 10)", &mut out), Ok(&b"(pass 10)"[..]));
+/// assert_eq!(plain(b"(pass  10)", &mut out), Err(Refusal::NoShape));
+/// ```
+pub fn plain<'a>(line: &[u8], out: &'a mut [u8]) -> Result<&'a [u8], Refusal> {
+    written(lines::plain(line, out), out)
+}
+
+/// The line that a call left at the front of its output.
+fn written(returned: Returned, out: &[u8]) -> Result<&[u8], Refusal> {
+    refusal::result(returned.number)?;
+    Ok(&out[..returned.length])
+}

@@ -1,0 +1,173 @@
+//! The wrapper's own duties where a line is written: what it hands to the
+//! library and what it hands back. The package `differential` tests the library.
+
+use boardtime::{lines, plain, Command, Keeper, Refusal, Rule, OUTPUT_BYTES};
+
+const UNTOUCHED: u8 = 0xA5;
+
+const START: Command = Command::Start {
+    board: 3,
+    rule: Rule::Im,
+    claim: 200,
+    lower: -1000,
+    upper: 1000,
+};
+
+/// Every form, with numbers that differ, so that none can stand for another.
+const COMMANDS: [(Command, &str); 8] = [
+    (START, "(start 3 im 200 (-1000 1000))"),
+    (
+        Command::Start {
+            board: 15,
+            rule: Rule::Mm,
+            claim: 50_000,
+            lower: -4_000_000_000_000_000_000,
+            upper: -3_999_999_999_999_999_999,
+        },
+        "(start 15 mm 50000 (-4000000000000000000 -3999999999999999999))",
+    ),
+    (Command::Pass { ticks: 86_400_000 }, "(pass 86400000)"),
+    (Command::Request { peer: 4 }, "(request 4)"),
+    (
+        Command::Reply {
+            peer: 15,
+            tag: 16_777_215,
+            trailing: -5,
+            leading: 4_000_000_000_000_000_000,
+        },
+        "(reply 15 16777215 (-5 4000000000000000000))",
+    ),
+    (Command::Drop { peer: 0 }, "(drop 0)"),
+    (Command::Read, "(read)"),
+    (Command::Waiting, "(waiting)"),
+];
+
+/// Each has one number that is the first refused, or one that would be accepted
+/// if it were cut short, or edges in the wrong order.
+const REFUSED: [Command; 14] = [
+    start(16, 0, 0, 0),
+    start(256, 0, 0, 0),
+    start(0, 50_001, 0, 0),
+    start(0, 1 << 16, 0, 0),
+    start(0, 0, -4_000_000_000_000_000_001, 0),
+    start(0, 0, 0, i64::MAX),
+    start(0, 0, 1, 0),
+    Command::Pass { ticks: 86_400_001 },
+    Command::Pass { ticks: 1 << 32 },
+    Command::Request { peer: u64::MAX },
+    reply(1 << 32, 1, 0),
+    reply(0, 0, 0),
+    reply(0, 1, i64::MIN),
+    Command::Drop { peer: 16 },
+];
+
+const fn start(board: u64, claim: u64, lower: i64, upper: i64) -> Command {
+    Command::Start {
+        board,
+        rule: Rule::Mm,
+        claim,
+        lower,
+        upper,
+    }
+}
+
+const fn reply(peer: u64, tag: u64, leading: i64) -> Command {
+    Command::Reply {
+        peer,
+        tag,
+        trailing: 0,
+        leading,
+    }
+}
+
+#[test]
+fn each_command_has_its_line() {
+    for (command, line) in COMMANDS {
+        let mut out = [UNTOUCHED; OUTPUT_BYTES + 9];
+        assert_eq!(command.write(&mut out), Ok(line.as_bytes()));
+        assert!(out[line.len()..].iter().all(|&byte| byte == UNTOUCHED));
+    }
+}
+
+#[test]
+fn lines_that_can_be_read_are_written_back() {
+    for (_, line) in COMMANDS {
+        let mut out = [UNTOUCHED; OUTPUT_BYTES + 9];
+        assert_eq!(plain(line.as_bytes(), &mut out), Ok(line.as_bytes()));
+        assert!(out[line.len()..].iter().all(|&byte| byte == UNTOUCHED));
+    }
+}
+
+#[test]
+fn numbers_outside_their_ranges_are_refused() {
+    let mut out = [UNTOUCHED; OUTPUT_BYTES];
+    for command in REFUSED {
+        let refused = command.write(&mut out);
+        assert_eq!(refused, Err(Refusal::OutsideRange), "{command:?}");
+        assert_eq!(out, [UNTOUCHED; OUTPUT_BYTES]);
+    }
+}
+
+#[test]
+fn rules_without_a_name_are_refused() {
+    let mut out = [UNTOUCHED; OUTPUT_BYTES];
+    for rule in [2, 255, 256, 257, 1 << 32, u64::MAX] {
+        let returned = lines::write_start(&mut out, 3, rule, 200, -1000, 1000);
+        assert_eq!((returned.number, returned.length), (2, 0), "{rule}");
+        assert_eq!(out, [UNTOUCHED; OUTPUT_BYTES]);
+    }
+}
+
+#[test]
+fn lines_that_cannot_be_read_are_refused() {
+    let mut out = [UNTOUCHED; OUTPUT_BYTES];
+    for (line, refusal) in [
+        ("", Refusal::NoShape),
+        ("(pass 10) ", Refusal::NoShape),
+        ("(read)\n", Refusal::NoShape),
+        ("(pass 86400001)", Refusal::OutsideRange),
+        ("(start 3 im 200 (1000 -1000))", Refusal::OutsideRange),
+    ] {
+        assert_eq!(plain(line.as_bytes(), &mut out), Err(refusal), "{line}");
+        assert_eq!(out, [UNTOUCHED; OUTPUT_BYTES]);
+    }
+}
+
+/// Before anything else is asked.
+#[test]
+fn short_outputs_are_refused() {
+    for length in [0, 1, OUTPUT_BYTES - 1] {
+        let mut out = vec![UNTOUCHED; length];
+        let accepted = COMMANDS.map(|(command, _)| command);
+        for command in accepted.iter().chain(&REFUSED) {
+            assert_eq!(command.write(&mut out), Err(Refusal::ShortOutput));
+        }
+        for line in ["(read)", "(pass 12x7)", "(pass 86400001)"] {
+            let refused = plain(line.as_bytes(), &mut out);
+            assert_eq!(refused, Err(Refusal::ShortOutput));
+        }
+        assert!(out.iter().all(|&byte| byte == UNTOUCHED));
+    }
+}
+
+#[test]
+fn written_lines_are_answered() {
+    let mut keeper = Keeper::fresh();
+    for (command, expected) in [
+        (START, "(started 3)\n"),
+        (Command::Pass { ticks: 10 }, "(at 10 (9997000 10003000))\n"),
+        (Command::Request { peer: 4 }, "(sent 4 1)\n"),
+        (Command::Waiting, "(waiting (4 1))\n"),
+        (reply(4, 1, 10_001_000), "(taken 4 (9997000 10001000))\n"),
+        (Command::Drop { peer: 4 }, "(no 7)\n"),
+        (
+            Command::Read,
+            "(time (9997000 10001000) (9999000 2000) 0 0)\n",
+        ),
+    ] {
+        let mut line = [0; OUTPUT_BYTES];
+        let mut out = [0; OUTPUT_BYTES];
+        let line = command.write(&mut line).expect("numbers in their ranges");
+        assert_eq!(keeper.answer(line, &mut out).bytes, expected.as_bytes());
+    }
+}
