@@ -1,4 +1,3 @@
 -- Laws about the definitions of specs/.
 pub mod ImageLaws
 pub mod Replayed
-pub mod CommandLaws

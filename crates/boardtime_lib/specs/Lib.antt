@@ -1,4 +1,3 @@
 -- What the contracts of `boardtime_lib` cite, and the statement about calls one after the other.
 pub mod Images
-pub mod Commands
 pub mod Replay

@@ -10,12 +10,9 @@ use keeper::Keeper;
 use lent::pass;
 use line::write_refusal;
 use on_image::answer_command;
-use on_image::returned;
 use reader::read_command;
 use writing::LEAST_OUTPUT;
-
-mod commands;
-
+use writing::returned;
 ghost use mathlib.Core.Path.{_≡_};
 ghost use Rattle.boardtime_lib.specs.Images.{FreshImage, LineImage, PassImage};
 

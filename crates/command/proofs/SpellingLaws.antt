@@ -1,19 +1,20 @@
--- The plain spelling of a form that keeps its limits is a spelling in the sense of the grammar (`plain-spells`), and a spelling of a form is
--- its plain spelling (`spelling-plain`). Both by the parts, one after the other.
+-- The plain spelling of a form that no cause of its own refuses is a spelling in the sense of the grammar (`plain-spells`), and a spelling of a
+-- form is its plain spelling (`spelling-plain`). Both by the parts, one after the other.
 use mathlib.Core.Path.{_≡_, refl, ap, _∙_}
-use mathlib.Core.Bool.{true, _&&_}
+use mathlib.Core.Bool.{Bool, true, false, not, _&&_}
 use mathlib.Core.List.{List, [], _∷_, _++_}
-use Prim.Native.Nat.{ℕ, _+_, _≤_, _<_, _^_}
+use Prim.Native.Nat.{ℕ, suc, _+_, _≤_, _<_, _^_}
 use native.Mathlib.Omega.{arith}
 use borrow.Author.Tests.{leb-true}
 use lib.Dec.{leb}
 use lib.IntN.{ℤ, pos, negsuc, natAbs}
 use lib.Signed.{leZ}
 use lib.ListN.{length, length-append}
+use Rattle.bits.specs.Choice.{choose}
 use Rattle.bits.proofs.Tests.{both}
 use Rattle.text.specs.Words.{bytes}
 use Rattle.numeral.specs.Digits.{signedDigits}
-use Rattle.numeral.specs.Numerals.{SignedNumeral}
+use Rattle.numeral.proofs.Digits.{digits-most}
 use Rattle.numeral.proofs.RoundTrip.{digits-numeral, signed-numeral, signed-spelling}
 use Rattle.moment.specs.declared.Interval.{Interval}
 use Rattle.moment.specs.Moment.{inRange}
@@ -23,8 +24,9 @@ use Rattle.moment.proofs.IntervalLaws.{range-read}
 use Rattle.rules.specs.declared.Rule.the-variants.{Im, Mm}
 use Rattle.command.specs.Forms as F
 use Rattle.command.specs.Forms.{Form, Part, text, rule, number, edge, IsPart, Spells, IsSpelling, parts}
-use Rattle.command.specs.Spelling.{plainPart, plainParts, plain}
+use Rattle.command.specs.Spelling.{plainPart, plainParts, plainSpelling}
 use Rattle.command.specs.Limits.{keeps, boardWithin, claimWithin, ticksWithin, tagWithin}
+use Rattle.command.specs.Causes.{first, formCauses}
 
 -- ---- a spelling is the plain one
 
@@ -40,8 +42,8 @@ parts-plain [] line h = h
 parts-plain (p ∷ ps) line (s, rest, this, whole, others) =
     whole ∙ ap (λ (x : List ℕ). x ++ rest) (part-plain p s this) ∙ ap (λ (x : List ℕ). plainPart p ++ x) (parts-plain ps rest others)
 
-pub spelling-plain : (f : Form) (line : List ℕ) → IsSpelling f line → line ≡ plain f
-unfolding plain
+pub spelling-plain : (f : Form) (line : List ℕ) → IsSpelling f line → line ≡ plainSpelling f
+unfolding plainSpelling
 spelling-plain f line h = parts-plain (parts f) line h
 
 -- ---- the plain spelling is one, where every number has a numeral
@@ -108,9 +110,22 @@ kept-numerals (F.drop peer) h =
 kept-numerals F.read h = (tt, tt)
 kept-numerals F.waiting h = (tt, tt)
 
-pub plain-spells : (f : Form) → keeps f ≡ true → IsSpelling f (plain f)
-unfolding plain
-plain-spells f h = parts-are (parts f) (kept-numerals f h)
+-- a form that no cause of its own refuses keeps its limits, and one that keeps them is refused by none
+pub uncaused-keeps : (f : Form) → first (formCauses f) ≡ 0 → keeps f ≡ true
+unfolding first
+uncaused-keeps f h = go (keeps f) h
+  where
+    go : (t : Bool) → _≡_ {A = ℕ} (choose (not t) (λ _. 2) (λ _. 0)) 0 → t ≡ true
+    go true e = refl
+    go false e = absurd (omega (arith, e))
+
+pub kept-uncaused : (f : Form) → keeps f ≡ true → first (formCauses f) ≡ 0
+unfolding first
+kept-uncaused f h = rw h
+
+pub plain-spells : (f : Form) → first (formCauses f) ≡ 0 → IsSpelling f (plainSpelling f)
+unfolding plainSpelling
+plain-spells f h = parts-are (parts f) (kept-numerals f (uncaused-keeps f h))
 
 -- ---- and it is short
 
@@ -125,26 +140,27 @@ abbrev partsRoom : List Part → ℕ
 partsRoom [] = 0
 partsRoom (p ∷ ps) = partRoom p + partsRoom ps
 
-signed-length : (z : ℤ) (s : List ℕ) → SignedNumeral z s → length s ≤ 20
-signed-length (pos n) s m = omega (arith, m .most)
-signed-length (negsuc n) s (t, m, e) = rw e (omega (arith, m .most))
+signed-length : (z : ℤ) → natAbs z < 10 ^ 19 → length (signedDigits z) ≤ 20
+unfolding signedDigits
+signed-length (pos n) h = omega (arith, digits-most 18 n h)
+signed-length (negsuc n) h = omega (arith, digits-most 18 (suc n) h)
 
 part-most : (p : Part) → HasNumeral p → length (plainPart p) ≤ partRoom p
 part-most (text t) h = omega arith
 part-most (rule Im) h = omega arith
 part-most (rule Mm) h = omega arith
-part-most (number n) h = digits-numeral n h .most
-part-most (edge z) h = signed-length z (signedDigits z) (signed-numeral z h)
+part-most (number n) h = digits-most 18 n h
+part-most (edge z) h = signed-length z h
 
 parts-most : (ps : List Part) → HaveNumerals ps → length (plainParts ps) ≤ partsRoom ps
 unfolding plainParts
 parts-most [] h = omega arith
 parts-most (p ∷ ps) h = omega (arith, length-append (plainPart p) (plainParts ps), part-most p (h .0), parts-most ps (h .1))
 
--- no line of a command that keeps its limits has more than 94 bytes
-pub plain-most : (f : Form) → keeps f ≡ true → length (plain f) ≤ 94
-unfolding plain
-plain-most f h = room f (parts-most (parts f) (kept-numerals f h))
+-- no form that no cause of its own refuses has more than 94 bytes
+pub plain-most : (f : Form) → first (formCauses f) ≡ 0 → length (plainSpelling f) ≤ 94
+unfolding plainSpelling
+plain-most f h = room f (parts-most (parts f) (kept-numerals f (uncaused-keeps f h)))
   where
     room : (g : Form) → length (plainParts (parts g)) ≤ partsRoom (parts g) → length (plainParts (parts g)) ≤ 94
     room (F.start board r claim edges) l = omega (arith, l)

@@ -5,7 +5,8 @@ use Rattle.text.specs.Words.{bytes}
 use Rattle.numeral.specs.Digits.{digits, signedDigits}
 use Rattle.command.specs.Forms.{Form, Part, text, rule, number, edge, ruleText, parts}
 
--- The plain spelling of a part: its text as it stands, a number by its digits alone.
+-- The plain spelling of a part: a text and a rule as they stand, a number by its digits, an edge by its digits with '-' before them if it is
+-- negative.
 abbrev pub plainPart : Part → List ℕ
 plainPart (text t) = bytes t
 plainPart (rule r) = bytes (ruleText r)
@@ -17,7 +18,7 @@ unfoldable pub plainParts : List Part → List ℕ
 plainParts [] = []
 plainParts (p ∷ ps) = plainPart p ++ plainParts ps
 
--- The plain spelling of a form is that of the parts which the grammar gives it. That it is a spelling in the sense of the grammar, and the
--- only one that a line can have, is `plain-spells` and `spelling-plain` of proofs/SpellingLaws.antt.
-unfoldable pub plain : Form → List ℕ
-plain f = plainParts (parts f)
+-- The plain spelling of a form is that of the parts which the grammar gives it. Of a form that no cause of its own refuses it is a spelling in
+-- the sense of the grammar (`plain-spells` of proofs/SpellingLaws.antt), and every spelling of a form is the plain one (`spelling-plain`).
+unfoldable pub plainSpelling : Form → List ℕ
+plainSpelling f = plainParts (parts f)

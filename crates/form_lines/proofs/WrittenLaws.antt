@@ -1,13 +1,14 @@
--- Laws of what a call that writes a line leaves: by its number, and of the lines of the three shapes.
+-- Laws of what a call that writes a line returns and leaves: by its number, and by the layout of its line.
 use mathlib.Core.Path.{_≡_, refl, sym, ap, _∙_}
 use mathlib.Core.Bool.{Bool, true, false, not}
 use mathlib.Core.List.{List, [], _∷_, _++_, append-assoc, append-nil}
+use mathlib.Core.Logic.{_↔_}
 use Prim.Native.Nat.{ℕ, _+_, _≤_, _<_}
 use Prim.Native.String.{String}
 use native.Mathlib.Nat.{zero-add}
 use native.Mathlib.Omega.{arith}
 use borrow.Author.Tests.{ltb-false, lt-ltb, le-ltb, ne-eqb, eqb-true}
-use lib.Dec.{eqb, ltb}
+use lib.Dec.{eqb, leb, ltb}
 use lib.ListN.{length, drop}
 use Rattle.bits.specs.Choice.{choose}
 use Rattle.bits.proofs.Tests.{by-test}
@@ -19,49 +20,57 @@ use Rattle.rules.specs.declared.Rule.{Rule}
 use Rattle.rules.specs.declared.Rule.the-variants.{Im, Mm}
 use Rattle.command.specs.Forms as F
 use Rattle.command.specs.Forms.{Form, Part, parts}
-use Rattle.command.specs.Spelling.{plainPart, plainParts, plain}
+use Rattle.command.specs.Spelling.{plainPart, plainParts, plainSpelling}
 use Rattle.command.specs.Limits.{keeps}
-use Rattle.command.specs.Causes.{Cause, cause, first, formCauses}
+use Rattle.command.specs.Causes.{Cause, cause, first, mostNumber, formCauses}
+use Rattle.command.proofs.CauseLaws.{small, first-most}
 use Rattle.command.proofs.SpellingLaws.{plain-most}
-use Rattle.form_lines.specs.Written.{Left, left, refusal, writes, refused, writtenForm, writtenByRule}
+use Rattle.form_lines.specs.Written.{WriteResult, writeResult, writeRefusal, writes, refused, writtenForm, writtenByRule}
 use Rattle.form_lines.specs.Lines.{edgedEnd, edgedLine, numberedLine}
 
 -- ---- by the number
 
--- a buffer that is not refused has room
-pub refusal-room : (causes : List Cause) (out : List ℕ) → refusal causes out ≡ 0 → leastOutput ≤ length out
-unfolding refusal first
-refusal-room causes out e = go (ltb (length out) leastOutput) refl e
+-- what is not refused has room, and no cause of its own
+pub refusal-none : (causes : List Cause) (out : List ℕ) → writeRefusal causes out ≡ 0 → (leastOutput ≤ length out) × (first causes ≡ 0)
+unfolding writeRefusal first
+refusal-none causes out e = go (ltb (length out) leastOutput) refl e
   where
-    go : (t : Bool) → ltb (length out) leastOutput ≡ t → choose t (λ _. 10) (λ _. first causes) ≡ 0 → leastOutput ≤ length out
+    go : (t : Bool) → ltb (length out) leastOutput ≡ t → choose t (λ _. 10) (λ _. first causes) ≡ 0 → (leastOutput ≤ length out) × (first causes ≡ 0)
     go true h k = absurd (omega (arith, k))
-    go false h k = ltb-false (length out) leastOutput h
+    go false h k = (ltb-false (length out) leastOutput h, k)
+
+pub none-refusal : (causes : List Cause) (out : List ℕ) → leastOutput ≤ length out → first causes ≡ 0 → writeRefusal causes out ≡ 0
+unfolding writeRefusal first
+none-refusal causes out room none = rw (le-ltb (length out) leastOutput room, none)
 
 -- a refusal: the buffer as it was
-pub writes-refused : (causes : List Cause) (line out : List ℕ) (n : ℕ) → n ≡ refusal causes out → (n ≡ 0 → ⊥) → left n 0 out ≡ writes causes line out
+pub writes-refused : (causes : List Cause) (line out : List ℕ) (n : ℕ) → n ≡ writeRefusal causes out → (n ≡ 0 → ⊥) → writeResult n 0 out ≡ writes causes line out
 unfolding writes
 writes-refused causes line out n e some = rw (← e, ne-eqb n 0 some)
 
--- a line that was put at the front
-pub writes-put : (causes : List Cause) (line out after : List ℕ) (n : ℕ) → refusal causes out ≡ 0 → length line ≤ leastOutput → Puts out 0 line after n
-    → left 0 n after ≡ writes causes line out
+-- no refusal: the line at the front
+pub writes-line : (causes : List Cause) (line out : List ℕ) → writeRefusal causes out ≡ 0 → writes causes line out ≡ writeResult 0 (length line) (line ++ drop (length line) out)
 unfolding writes
+writes-line causes line out e = rw e
+
+pub writes-put : (causes : List Cause) (line out after : List ℕ) (n : ℕ) → writeRefusal causes out ≡ 0 → length line ≤ leastOutput → Puts out 0 line after n
+    → writeResult 0 n after ≡ writes causes line out
 writes-put causes line out after n e short p =
-    let enough : leastOutput ≤ length out = refusal-room causes out e in
+    let enough : leastOutput ≤ length out = refusal-none causes out e .0 in
     let room : 0 + length line ≤ length out = omega arith in
     let (bytes-are, place-is) = put-room {at = 0} room (p .put room) in
-    rw (e, bytes-are, place-is, zero-add (length line))
+    rw (writes-line causes line out e, bytes-are, place-is, zero-add (length line))
 
 -- no line, in a buffer that is too short and in one that is not
-pub refused-short : (n : ℕ) (out : List ℕ) → length out < leastOutput → left 10 0 out ≡ refused n out
-unfolding refused writes refusal first
+pub refused-short : (n : ℕ) (out : List ℕ) → length out < leastOutput → writeResult 10 0 out ≡ refused n out
+unfolding refused writes writeRefusal first
 refused-short n out h = rw (lt-ltb (length out) leastOutput h)
 
-pub refused-long : (n : ℕ) (out : List ℕ) → leastOutput ≤ length out → left n 0 out ≡ refused n out
-unfolding refused writes refusal first
+pub refused-long : (n : ℕ) (out : List ℕ) → leastOutput ≤ length out → writeResult n 0 out ≡ refused n out
+unfolding refused writes writeRefusal first
 refused-long n out h = rw (le-ltb (length out) leastOutput h) (by-test (eqb n 0) (λ e. rw (eqb-true n 0 e)) (λ e. rw e))
 
--- ---- the line of each shape is the plain spelling of its parts
+-- ---- the line of each layout is the plain spelling of its parts
 
 abbrev edgedParts : String → ℕ → Part → ℕ → Interval → List Part
 edgedParts word m between n e =
@@ -83,76 +92,73 @@ bare-line : (word : String) → bytes word ≡ plainParts (F.text word ∷ [])
 unfolding plainParts
 bare-line word = sym (append-nil (bytes word))
 
--- what is left by a form whose parts are these, `kept` telling whether it keeps its limits
-module _ (f : Form) (word : String) (kept : Bool) (keeps-it : kept ≡ keeps f) (out : List ℕ) where
-  form-left : (line : List ℕ) (ps : List Part) → line ≡ plainParts ps → parts f ≡ ps → writes (cause 2 (not kept) ∷ []) line out ≡ writtenForm f out
-  unfolding writtenForm plain
-  form-left line ps spelt are =
+-- what is written of a form that has these parts and no cause but its limits, `kept` telling whether it keeps them
+module _ (f : Form) (word : String) (limits : formCauses f ≡ cause 2 (not (keeps f)) ∷ []) (kept : Bool) (keeps-it : kept ≡ keeps f) (out : List ℕ) where
+  form-written : (line : List ℕ) (ps : List Part) → line ≡ plainParts ps → parts f ≡ ps → writes (cause 2 (not kept) ∷ []) line out ≡ writtenForm f out
+  unfolding writtenForm plainSpelling
+  form-written line ps spelt are =
       ap (λ (t : Bool). writes (cause 2 (not t) ∷ []) line out) keeps-it
+      ∙ ap (λ (causes : List Cause). writes causes line out) (sym limits)
       ∙ ap (λ (s : List ℕ). writes (formCauses f) s out) (spelt ∙ ap plainParts (sym are))
 
   pub edged-form : (m : ℕ) (between : Part) (n : ℕ) (e : Interval) → parts f ≡ edgedParts word m between n e
       → writes (cause 2 (not kept) ∷ []) (edgedLine (bytes word) m (plainPart between) n e) out ≡ writtenForm f out
-  edged-form m between n e are = form-left _ _ (edged-line word m between n e) are
+  edged-form m between n e are = form-written _ _ (edged-line word m between n e) are
 
   pub numbered-form : (n : ℕ) → parts f ≡ numberedParts word n → writes (cause 2 (not kept) ∷ []) (numberedLine (bytes word) n) out ≡ writtenForm f out
-  numbered-form n are = form-left _ _ (numbered-line word n) are
+  numbered-form n are = form-written _ _ (numbered-line word n) are
 
   pub bare-form : parts f ≡ F.text word ∷ [] → writes (cause 2 (not kept) ∷ []) (bytes word) out ≡ writtenForm f out
-  bare-form are = form-left _ _ (bare-line word) are
+  bare-form are = form-written _ _ (bare-line word) are
 
 -- ---- by the case that a rule is
 
-pub rule-left : (form : Rule → Form) (out : List ℕ) {l : Left} {r s : Rule} → s ≡ r → l ≡ writtenForm (form r) out → l ≡ writtenForm (form s) out
-rule-left form out {l} {r} {s} e h = h ∙ ap (λ (x : Rule). writtenForm (form x) out) (sym e)
+pub rule-written : (form : Rule → Form) (out : List ℕ) {w : WriteResult} {r s : Rule} → s ≡ r → w ≡ writtenForm (form r) out → w ≡ writtenForm (form s) out
+rule-written form out {w} {r} {s} e h = h ∙ ap (λ (x : Rule). writtenForm (form x) out) (sym e)
 
--- ---- what the number says
+-- ---- no number is above the greatest of the table, and no length above the least output
 
--- a form that keeps its limits, in a buffer with room
-pub form-kept : (f : Form) (out : List ℕ) → leastOutput ≤ length out → keeps f ≡ true → writtenForm f out ≡ left 0 (length (plain f)) (plain f ++ drop (length (plain f)) out)
-unfolding writtenForm writes refusal first
-form-kept f out room kept = rw (le-ltb (length out) leastOutput room, kept)
-
--- number 0: there is room, and every limit is kept
-number-refusal : (causes : List Cause) (line out : List ℕ) → writes causes line out .number ≡ refusal causes out
+number-refusal : (causes : List Cause) (line out : List ℕ) → writes causes line out .number ≡ writeRefusal causes out
 unfolding writes
-number-refusal causes line out = by-test (eqb (refusal causes out) 0) (λ e. rw e (sym (eqb-true (refusal causes out) 0 e))) (λ e. rw e)
+number-refusal causes line out = by-test (eqb (writeRefusal causes out) 0) (λ e. rw e (sym (eqb-true (writeRefusal causes out) 0 e))) (λ e. rw e)
 
-refusal-kept : (f : Form) (out : List ℕ) → leastOutput ≤ length out → refusal (formCauses f) out ≡ 0 → keeps f ≡ true
-unfolding refusal first
-refusal-kept f out room e = go (keeps f) (rw (le-ltb (length out) leastOutput room) at e)
-  where
-    go : (t : Bool) → _≡_ {A = ℕ} (choose (not t) (λ _. 2) (λ _. 0)) 0 → t ≡ true
-    go true h = refl
-    go false h = absurd (omega (arith, h))
-
-pub form-accepts : (f : Form) (out : List ℕ) → writtenForm f out .number ≡ 0 → (leastOutput ≤ length out) × (keeps f ≡ true)
+-- number 0 exactly if there is room and no cause holds
+pub form-accepts : (f : Form) (out : List ℕ) → (writtenForm f out .number ≡ 0) ↔ ((leastOutput ≤ length out) × (first (formCauses f) ≡ 0))
 unfolding writtenForm
-form-accepts f out e =
-    let none : refusal (formCauses f) out ≡ 0 = sym (number-refusal (formCauses f) (plain f) out) ∙ e in
-    let room : leastOutput ≤ length out = refusal-room (formCauses f) out none in
-    (room, refusal-kept f out room none)
+form-accepts f out =
+    let same : writes (formCauses f) (plainSpelling f) out .number ≡ writeRefusal (formCauses f) out = number-refusal (formCauses f) (plainSpelling f) out in
+    (λ e. refusal-none (formCauses f) out (sym same ∙ e), λ h. same ∙ none-refusal (formCauses f) out (h .0) (h .1))
 
--- ---- no length is above the least output
+abbrev pub Bounded : WriteResult → Type 0
+Bounded w = (w .number ≤ mostNumber) × (w .length ≤ leastOutput)
 
-writes-most : (causes : List Cause) (line out : List ℕ) → (refusal causes out ≡ 0 → length line ≤ leastOutput) → writes causes line out .length ≤ leastOutput
+refusal-most : (causes : List Cause) (out : List ℕ) → small causes ≡ true → writeRefusal causes out ≤ mostNumber
+unfolding writeRefusal
+refusal-most causes out few = first-most (cause 10 (ltb (length out) leastOutput) ∷ causes) few
+
+length-most : (causes : List Cause) (line out : List ℕ) → (first causes ≡ 0 → length line ≤ leastOutput) → writes causes line out .length ≤ leastOutput
 unfolding writes
-writes-most causes line out short =
-    by-test (eqb (refusal causes out) 0) (λ e. rw e (short (eqb-true (refusal causes out) 0 e))) (λ e. rw e (omega arith))
+length-most causes line out short =
+    by-test
+    (eqb (writeRefusal causes out) 0)
+    (λ e. rw e (short (refusal-none causes out (eqb-true (writeRefusal causes out) 0 e) .1)))
+    (λ e. rw e (omega arith))
 
-pub form-most : (f : Form) (out : List ℕ) → writtenForm f out .length ≤ leastOutput
+writes-bounded : (causes : List Cause) (line out : List ℕ) → small causes ≡ true → (first causes ≡ 0 → length line ≤ leastOutput) → Bounded (writes causes line out)
+writes-bounded causes line out few short = (rw (number-refusal causes line out) (refusal-most causes out few), length-most causes line out short)
+
+pub form-bounded : (f : Form) (out : List ℕ) → Bounded (writtenForm f out)
 unfolding writtenForm
-form-most f out =
-    writes-most (formCauses f) (plain f) out (λ e. omega (arith, plain-most f (refusal-kept f out (refusal-room (formCauses f) out e) e)))
+form-bounded f out = writes-bounded (formCauses f) (plainSpelling f) out refl (λ e. omega (arith, plain-most f e))
 
-pub refused-most : (n : ℕ) (out : List ℕ) → refused n out .length ≤ leastOutput
+pub refused-bounded : (n : ℕ) (out : List ℕ) → leb n mostNumber ≡ true → Bounded (refused n out)
 unfolding refused
-refused-most n out = writes-most (cause n true ∷ []) [] out (λ e. omega arith)
+refused-bounded n out h = writes-bounded (cause n true ∷ []) [] out (rw h) (λ e. omega arith)
 
-pub by-rule-most : (n : ℕ) (form : Rule → Form) (out : List ℕ) → writtenByRule n form out .length ≤ leastOutput
+pub by-rule-bounded : (n : ℕ) (form : Rule → Form) (out : List ℕ) → Bounded (writtenByRule n form out)
 unfolding writtenByRule
-by-rule-most n form out =
+by-rule-bounded n form out =
     by-test
     (eqb n 0)
-    (λ a. rw a (form-most (form Im) out))
-    (λ a. rw a (by-test (eqb n 1) (λ b. rw b (form-most (form Mm) out)) (λ b. rw b (refused-most 2 out))))
+    (λ a. rw a (form-bounded (form Im) out))
+    (λ a. rw a (by-test (eqb n 1) (λ b. rw b (form-bounded (form Mm) out)) (λ b. rw b (refused-bounded 2 out refl))))

@@ -1,4 +1,4 @@
--- Lines of the three shapes, as private functions promise them. What each form's line is, a reader takes from `plain`.
+-- Lines by their layout, as private functions promise them. They serve the proofs: what each form's line is, `plainSpelling` says.
 use mathlib.Core.List.{List, _++_}
 use Prim.Native.Nat.{ℕ}
 use Rattle.text.specs.Words.{bytes}
@@ -6,10 +6,11 @@ use Rattle.numeral.specs.Digits.{digits}
 use Rattle.moment.specs.declared.Interval.{Interval}
 use Rattle.writing.specs.Puts.{pair}
 
--- two numbers with a text between them, and edges
+-- the second number, the edges and the last bracket
 unfoldable pub edgedEnd : ℕ → Interval → List ℕ
 edgedEnd n edges = digits n ++ bytes " " ++ pair (edges .lower) (edges .upper) ++ bytes ")"
 
+-- two numbers with a text between them, and edges
 unfoldable pub edgedLine : List ℕ → ℕ → List ℕ → ℕ → Interval → List ℕ
 edgedLine word m between n edges = word ++ digits m ++ between ++ edgedEnd n edges
 

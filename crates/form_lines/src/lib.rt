@@ -17,16 +17,16 @@ mod shapes;
 
 ghost use mathlib.Core.Path.{_≡_};
 ghost use Rattle.command.specs.Forms.{start, pass, request, reply, drop, read, waiting};
-ghost use Rattle.form_lines.specs.Written.{left, writtenForm, refused, writtenByRule};
+ghost use Rattle.form_lines.specs.Written.{writeResult, writtenForm, refused, writtenByRule};
 
-// The number, and the length of the line at the front of the buffer. A refusal has length 0, and touches no byte.
+// The number, and the length of the line at the front of the buffer: 0 unless the number is 0.
 pub struct Written {
     pub number: u8,
     pub length: usize,
 }
 
 pub fn write_start(out: &mut [u8], board: u64, rule: Rule, claim: u64, edges: Interval) -> Written
-    ensures { λ r. ⌜ left (r .number) (r .length) (now (out .exit)) ≡ writtenForm (start board rule claim edges) (now (out .entry)) ⌝ }
+    ensures { λ r. ⌜ writeResult (r .number) (r .length) (now (out .exit)) ≡ writtenForm (start board rule claim edges) (now (out .entry)) ⌝ }
 {
     let kept = start_within(board, claim, edges);
     match rule {
@@ -35,9 +35,9 @@ pub fn write_start(out: &mut [u8], board: u64, rule: Rule, claim: u64, edges: In
     }
 }
 
-// No line: the number, after 10.
+// Refuses with the number, or with 10 before it, and touches no byte.
 pub fn refuse(out: &[u8], number: u8) -> Written
-    ensures { λ r. ⌜ left (r .number) (r .length) (now (out .entry)) ≡ refused number (now (out .entry)) ⌝ }
+    ensures { λ r. ⌜ writeResult (r .number) (r .length) (now (out .entry)) ≡ refused number (now (out .entry)) ⌝ }
 {
     if out.len() < LEAST_OUTPUT {
         return Written {
@@ -48,15 +48,15 @@ pub fn refuse(out: &[u8], number: u8) -> Written
     Written { number, length: 0 }
 }
 
-// A start whose rule is a number too: 0 for im, 1 for mm.
-pub fn write_start_by_number(
+// A start whose rule is a number too: 0 for im, 1 for mm; any other is refused with 2.
+pub fn write_start_with_rule_number(
     out: &mut [u8],
     board: u64,
     rule: u64,
     claim: u64,
     edges: Interval,
 ) -> Written
-    ensures { λ r. ⌜ left (r .number) (r .length) (now (out .exit)) ≡ writtenByRule rule (λ x. start board x claim edges) (now (out .entry)) ⌝ }
+    ensures { λ r. ⌜ writeResult (r .number) (r .length) (now (out .exit)) ≡ writtenByRule rule (λ x. start board x claim edges) (now (out .entry)) ⌝ }
 {
     if rule == 0 {
         return write_start(out, board, Rule::Im, claim, edges);
@@ -68,19 +68,19 @@ pub fn write_start_by_number(
 }
 
 pub fn write_pass(out: &mut [u8], ticks: u64) -> Written
-    ensures { λ r. ⌜ left (r .number) (r .length) (now (out .exit)) ≡ writtenForm (pass ticks) (now (out .entry)) ⌝ }
+    ensures { λ r. ⌜ writeResult (r .number) (r .length) (now (out .exit)) ≡ writtenForm (pass ticks) (now (out .entry)) ⌝ }
 {
     write_numbered(out, ticks_within(ticks), b"(pass ", ticks)
 }
 
 pub fn write_request(out: &mut [u8], peer: u64) -> Written
-    ensures { λ r. ⌜ left (r .number) (r .length) (now (out .exit)) ≡ writtenForm (request peer) (now (out .entry)) ⌝ }
+    ensures { λ r. ⌜ writeResult (r .number) (r .length) (now (out .exit)) ≡ writtenForm (request peer) (now (out .entry)) ⌝ }
 {
     write_numbered(out, board_within(peer), b"(request ", peer)
 }
 
 pub fn write_reply(out: &mut [u8], peer: u64, tag: u64, edges: Interval) -> Written
-    ensures { λ r. ⌜ left (r .number) (r .length) (now (out .exit)) ≡ writtenForm (reply peer tag edges) (now (out .entry)) ⌝ }
+    ensures { λ r. ⌜ writeResult (r .number) (r .length) (now (out .exit)) ≡ writtenForm (reply peer tag edges) (now (out .entry)) ⌝ }
 {
     write_edged(
         out,
@@ -94,19 +94,19 @@ pub fn write_reply(out: &mut [u8], peer: u64, tag: u64, edges: Interval) -> Writ
 }
 
 pub fn write_drop(out: &mut [u8], peer: u64) -> Written
-    ensures { λ r. ⌜ left (r .number) (r .length) (now (out .exit)) ≡ writtenForm (drop peer) (now (out .entry)) ⌝ }
+    ensures { λ r. ⌜ writeResult (r .number) (r .length) (now (out .exit)) ≡ writtenForm (drop peer) (now (out .entry)) ⌝ }
 {
     write_numbered(out, board_within(peer), b"(drop ", peer)
 }
 
 pub fn write_read(out: &mut [u8]) -> Written
-    ensures { λ r. ⌜ left (r .number) (r .length) (now (out .exit)) ≡ writtenForm read (now (out .entry)) ⌝ }
+    ensures { λ r. ⌜ writeResult (r .number) (r .length) (now (out .exit)) ≡ writtenForm read (now (out .entry)) ⌝ }
 {
     write_bare(out, b"(read)")
 }
 
 pub fn write_waiting(out: &mut [u8]) -> Written
-    ensures { λ r. ⌜ left (r .number) (r .length) (now (out .exit)) ≡ writtenForm waiting (now (out .entry)) ⌝ }
+    ensures { λ r. ⌜ writeResult (r .number) (r .length) (now (out .exit)) ≡ writtenForm waiting (now (out .entry)) ⌝ }
 {
     write_bare(out, b"(waiting)")
 }

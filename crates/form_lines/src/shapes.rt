@@ -1,4 +1,4 @@
-// Lines of the three shapes: two numbers and edges, one number, a word alone. Nothing is put before every test has passed.
+// Lines by their layout: two numbers and edges, one number, a word alone. Nothing is put before every test has passed.
 use crate::Written;
 use moment::Interval;
 use numeral::write::put_number;
@@ -12,14 +12,14 @@ ghost use Prim.Native.Nat.{_≤_};
 ghost use lib.ListN.{length};
 ghost use Rattle.writing.specs.Puts.{Puts};
 ghost use Rattle.command.specs.Causes.{cause, first};
-ghost use Rattle.form_lines.specs.Written.{left, writes};
+ghost use Rattle.form_lines.specs.Written.{writeResult, writes};
 ghost use Rattle.form_lines.specs.Lines.{edgedEnd, edgedLine, numberedLine};
 
 pub(crate) const OUTSIDE_LIMITS: u8 = 2;
 
 pub(crate) const NO_ROOM: u8 = 10;
 
-// 10 if the buffer is too short, then 2 if a number breaks its limit.
+// 10 if the buffer is too short, then 2 if a limit is broken.
 fn refusal_of(short: bool, kept: bool) -> u8
     ensures { λ r. ⌜ r ≡ first (cause 10 short ∷ cause 2 (not kept) ∷ []) ⌝ }
 {
@@ -32,7 +32,7 @@ fn refusal_of(short: bool, kept: bool) -> u8
     0
 }
 
-// 'N (LOWER UPPER))': the end of a line with edges
+// `N (LOWER UPPER))`, the end of a line with edges
 fn put_end(out: &mut [u8], at: usize, n: u64, edges: Interval) -> usize
     ensures { λ r. ⌜ Puts (now (out .entry)) at (edgedEnd n edges) (now (out .exit)) r × (length (edgedEnd n edges) ≤ 65) ⌝ }
 {
@@ -42,7 +42,7 @@ fn put_end(out: &mut [u8], at: usize, n: u64, edges: Interval) -> usize
     put_bytes(out, at, b")")
 }
 
-// 'WORD M BETWEEN N (LOWER UPPER))', where the texts have the bracket and the spaces
+// `WORD M BETWEEN N (LOWER UPPER))`, where the texts have the bracket and the spaces
 pub(crate) fn write_edged(
     out: &mut [u8],
     kept: bool,
@@ -54,7 +54,7 @@ pub(crate) fn write_edged(
 ) -> Written
     requires { ⌜ length (now word) ≤ 16 ⌝ }
     requires { ⌜ length (now between) ≤ 16 ⌝ }
-    ensures { λ r. ⌜ left (r .number) (r .length) (now (out .exit)) ≡ writes (cause 2 (not kept) ∷ []) (edgedLine (now (word .entry)) m (now (between .entry)) n edges) (now (out .entry)) ⌝ }
+    ensures { λ r. ⌜ writeResult (r .number) (r .length) (now (out .exit)) ≡ writes (cause 2 (not kept) ∷ []) (edgedLine (now (word .entry)) m (now (between .entry)) n edges) (now (out .entry)) ⌝ }
 {
     let number = refusal_of(out.len() < LEAST_OUTPUT, kept);
     if number != 0 {
@@ -67,10 +67,10 @@ pub(crate) fn write_edged(
     Written { number: 0, length }
 }
 
-// 'WORD N)'
+// `WORD N)`
 pub(crate) fn write_numbered(out: &mut [u8], kept: bool, word: &[u8], n: u64) -> Written
     requires { ⌜ length (now word) ≤ 16 ⌝ }
-    ensures { λ r. ⌜ left (r .number) (r .length) (now (out .exit)) ≡ writes (cause 2 (not kept) ∷ []) (numberedLine (now (word .entry)) n) (now (out .entry)) ⌝ }
+    ensures { λ r. ⌜ writeResult (r .number) (r .length) (now (out .exit)) ≡ writes (cause 2 (not kept) ∷ []) (numberedLine (now (word .entry)) n) (now (out .entry)) ⌝ }
 {
     let number = refusal_of(out.len() < LEAST_OUTPUT, kept);
     if number != 0 {
@@ -85,7 +85,7 @@ pub(crate) fn write_numbered(out: &mut [u8], kept: bool, word: &[u8], n: u64) ->
 // a word alone, which has no limit to break
 pub(crate) fn write_bare(out: &mut [u8], word: &[u8]) -> Written
     requires { ⌜ length (now word) ≤ 16 ⌝ }
-    ensures { λ r. ⌜ left (r .number) (r .length) (now (out .exit)) ≡ writes (cause 2 (not true) ∷ []) (now (word .entry)) (now (out .entry)) ⌝ }
+    ensures { λ r. ⌜ writeResult (r .number) (r .length) (now (out .exit)) ≡ writes (cause 2 (not true) ∷ []) (now (word .entry)) (now (out .entry)) ⌝ }
 {
     let number = refusal_of(out.len() < LEAST_OUTPUT, true);
     if number != 0 {

@@ -13,7 +13,8 @@ use mir.Syntax.{w64}
 use mir.Val.{Fits, ofZ, toZ}
 use mir.Facts.{ofZ-toZ}
 use Rattle.image.specs.Bytes.{number, numbers, lowestFirst, eachLowestFirst}
-use Rattle.image.specs.Layout.{imageLength, version, flag, ruleByte, ruleOf, ownBytes, peerBytes, imageOf, readable, keeperAt, keeperIn, AllBelow}
+use Rattle.rules.specs.Rules.{ruleNumber}
+use Rattle.image.specs.Layout.{imageLength, version, flag, ruleOf, ownBytes, peerBytes, imageOf, readable, keeperAt, keeperIn, AllBelow}
 use Rattle.image.proofs.LayoutLaws.{readable-parts}
 
 -- ---- parts of a list, one after the other
@@ -67,7 +68,7 @@ flag-there zero h = refl
 flag-there (suc zero) h = refl
 flag-there (suc (suc n)) h = absurd (omega arith)
 
-rule-there : (n : ℕ) → n ≤ 1 → ruleByte (ruleOf (eqb n 1)) ≡ n
+rule-there : (n : ℕ) → n ≤ 1 → ruleNumber (ruleOf (eqb n 1)) ≡ n
 rule-there zero h = refl
 rule-there (suc zero) h = refl
 rule-there (suc (suc n)) h = absurd (omega arith)
@@ -86,7 +87,7 @@ module _ (l : List ℕ) (long : length l ≡ imageLength) (first : getD l 0 0 �
       let fits : Fits w64 (number 8 at l) = record { fits = number-below 8 at l h } in
       ap (lowestFirst 8) (ofZ-toZ fits) ∙ lowest-back 8 at l (omega (arith, long)) h
 
-  head-there : version ∷ flag (eqb (getD l 1 0) 1) ∷ getD l 2 0 ∷ ruleByte (ruleOf (eqb (getD l 3 0) 1)) ∷ [] ≡ part 0 4 l
+  head-there : version ∷ flag (eqb (getD l 1 0) 1) ∷ getD l 2 0 ∷ ruleNumber (ruleOf (eqb (getD l 3 0) 1)) ∷ [] ≡ part 0 4 l
   head-there =
       sym (marks l (omega (arith, long)) ∙ rw (first, flag-there (getD l 1 0) started, rule-there (getD l 3 0) rule))
 

@@ -16,7 +16,8 @@ use Rattle.rules.specs.declared.Rule.{Rule}
 use Rattle.rules.specs.declared.Rule.the-variants.{Im, Mm}
 use Rattle.keeper.specs.declared.Keeper.{Keeper}
 use Rattle.image.specs.Bytes.{number, numbers, lowestFirst, eachLowestFirst}
-use Rattle.image.specs.Layout.{flag, ruleByte, ownBytes, peerBytes, imageOf, ruleOf, readable, keeperAt, keeperIn, AllBelow, Fitting}
+use Rattle.rules.specs.Rules.{ruleNumber}
+use Rattle.image.specs.Layout.{flag, ownBytes, peerBytes, imageOf, ruleOf, readable, keeperAt, keeperIn, AllBelow, Fitting}
 use Rattle.image.proofs.StoreLaws.{length-lowest, length-each}
 use Rattle.image.proofs.LayoutLaws.{image-length}
 
@@ -72,7 +73,7 @@ flag-back : (b : Bool) → (eqb (flag b) 1 ≡ b) × (leb (flag b) 1 ≡ true)
 flag-back true = (refl, refl)
 flag-back false = (refl, refl)
 
-rule-back : (r : Rule) → (ruleOf (eqb (ruleByte r) 1) ≡ r) × (leb (ruleByte r) 1 ≡ true)
+rule-back : (r : Rule) → (ruleOf (eqb (ruleNumber r) 1) ≡ r) × (leb (ruleNumber r) 1 ≡ true)
 rule-back Im = (refl, refl)
 rule-back Mm = (refl, refl)
 

@@ -14,6 +14,7 @@ use mir.Val.{SFits, ofZ, toZ}
 use Rattle.bits.specs.Choice.{choose}
 use Rattle.moment.specs.declared.Interval.{Interval}
 use Rattle.moment.specs.Intervals.{interval}
+use Rattle.rules.specs.Rules.{ruleNumber}
 use Rattle.rules.specs.declared.Rule.{Rule}
 use Rattle.rules.specs.declared.Rule.the-variants.{Im, Mm}
 use Rattle.keeper.specs.State.{fresh}
@@ -30,13 +31,9 @@ abbrev pub flag : Bool → ℕ
 flag true = 1
 flag false = 0
 
-abbrev pub ruleByte : Rule → ℕ
-ruleByte Im = 0
-ruleByte Mm = 1
-
 -- places 0 to 3, and 0 to 7
 abbrev pub markBytes : Keeper → List ℕ
-markBytes k = version ∷ flag (k .started) ∷ k .board ∷ ruleByte (k .rule) ∷ []
+markBytes k = version ∷ flag (k .started) ∷ k .board ∷ ruleNumber (k .rule) ∷ []
 
 abbrev pub headBytes : Keeper → List ℕ
 headBytes k = markBytes k ++ lowestFirst 2 (k .claim) ++ lowestFirst 2 (k .waiting)

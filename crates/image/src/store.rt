@@ -14,7 +14,8 @@ ghost use lib.Dec.{eqb};
 ghost use lib.ListN.{length};
 ghost use Rattle.bits.specs.Choice.{choose};
 ghost use Rattle.image.specs.Bytes.{eachLowestFirst, stored};
-ghost use Rattle.image.specs.Layout.{imageLength, flag, ruleByte, markBytes, headBytes, edgeBytes, countBytes, ownBytes, peerBytes, imageAfter};
+ghost use Rattle.rules.specs.Rules.{ruleNumber};
+ghost use Rattle.image.specs.Layout.{imageLength, flag, markBytes, headBytes, edgeBytes, countBytes, ownBytes, peerBytes, imageAfter};
 
 // The sixteen tags from a place on.
 fn store_tags(image: &mut [u8], at: usize, tags: &[u32])
@@ -49,7 +50,7 @@ fn flag_of(set: bool) -> u8
 }
 
 fn byte_of(rule: Rule) -> u8
-    ensures { λ r. ⌜ r ≡ ruleByte rule ⌝ }
+    ensures { λ r. ⌜ r ≡ ruleNumber rule ⌝ }
 {
     match rule {
         Rule::Im => 0,

@@ -10,20 +10,13 @@ use keeper::Keeper;
 use keeper::calls::apply_command;
 use keeper::number::number_of;
 use line::write_answer;
+use writing::returned;
 ghost use mathlib.Core.Path.{_≡_};
-ghost use Prim.Native.Nat.{_+_, _*_, _≤_};
+ghost use Prim.Native.Nat.{_≤_};
 ghost use lib.ListN.{length};
 ghost use Rattle.image.specs.Layout.{imageLength};
 ghost use Rattle.writing.specs.Puts.{leastOutput};
 ghost use Rattle.on_image.specs.Apply.{storedAfter, CommandImage};
-
-// What a call with a line returns.
-pub fn returned(number: u8, length: usize) -> u32
-    requires { ⌜ length ≤ leastOutput ⌝ }
-    ensures { λ r. ⌜ r ≡ number + 256 * length ⌝ }
-{
-    (number as u32) + 256 * (length as u32)
-}
 
 // Stores what a command changed, by its answer: `keeper` is the keeper that it handed back.
 fn store_changes(image: &mut [u8], answer: Answer, keeper: Keeper)

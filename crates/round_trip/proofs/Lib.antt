@@ -1,2 +1,3 @@
 -- The theorem of order 1, proved.
+pub mod NoBreak
 pub mod Theorem

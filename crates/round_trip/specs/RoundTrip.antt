@@ -1,31 +1,39 @@
--- Document 02, order 1: the reader's answer (`readingOf`, in the contract of `read_command`) and what the writer leaves (`written`, in the
--- contract of `write_command`), held against each other.
+-- Document 02, order 1: the reader's answer (`readingOf`, in the contract of `read_command`) and what the writer returns and leaves (`written`, in
+-- the contract of `write_command`), held against each other.
 use mathlib.Core.Path.{_≡_}
 use mathlib.Core.List.{List, _++_}
 use mathlib.Core.Logic.{_↔_}
 use Prim.Native.Nat.{ℕ, _+_, _≤_}
 use lib.ListN.{length, take, drop}
 use Rattle.writing.specs.Puts.{leastOutput}
+use Rattle.command.specs.Causes.{first, ownCauses}
 use Rattle.command.specs.declared.Command.{Command}
 use Rattle.command.specs.declared.Reading.the-variants.{Accepted}
+use Rattle.lines.specs.Lines.{breaks}
 use Rattle.reader.specs.Reading.{readingOf}
-use Rattle.form_lines.specs.Written.{left}
+use Rattle.form_lines.specs.Written.{writeResult}
 use Rattle.writer.specs.Written.{written}
 
 -- The command is not refused in this buffer.
-abbrev pub Accepts : Command → List ℕ → Type 0
-Accepts c out = written c out .number ≡ 0
+abbrev pub NotRefused : Command → List ℕ → Type 0
+NotRefused c out = written c out .number ≡ 0
 
 -- The line that was written: as many bytes at the front of the buffer as the length says.
 abbrev pub lineIn : Command → List ℕ → List ℕ
 lineIn c out = take (written c out .length) (written c out .buffer)
 
 pub record RoundTrip : Type 0 where
-  -- 'Each accepted line, read and written, gives the same bytes': every line that is read as a command, whether a keeper refuses it or not,
-  -- in every buffer that is long enough
-  pub line-back : (line : List ℕ) (c : Command) (out : List ℕ) → readingOf line ≡ Accepted c → leastOutput ≤ length out
-      → written c out ≡ left 0 (length line) (line ++ drop (length line) out)
+  -- 'Each accepted line, read and written, gives the same bytes': every line that is read as a command, whether a keeper refuses it or not, at
+  -- the front of every buffer in which the command is not refused
+  pub line-back : (line : List ℕ) (c : Command) (out : List ℕ) → readingOf line ≡ Accepted c → NotRefused c out
+      → written c out ≡ writeResult 0 (length line) (line ++ drop (length line) out)
+  -- a buffer with room is such a buffer: what is read as a command is within its limits
+  pub line-accepted : (line : List ℕ) (c : Command) (out : List ℕ) → readingOf line ≡ Accepted c → leastOutput ≤ length out → NotRefused c out
   -- 'Each command that it doesn't refuse, written and read, gives the same command.'
-  pub command-back : (c : Command) (out : List ℕ) → Accepts c out → readingOf (lineIn c out) ≡ Accepted c
+  pub command-back : (c : Command) (out : List ℕ) → NotRefused c out → readingOf (lineIn c out) ≡ Accepted c
   -- 'Two such commands have equal lines exactly when they are equal.'
-  pub same-line : (c d : Command) (out out′ : List ℕ) → Accepts c out → Accepts d out′ → (lineIn c out ≡ lineIn d out′) ↔ (c ≡ d)
+  pub same-line : (c d : Command) (out out′ : List ℕ) → NotRefused c out → NotRefused d out′ → (lineIn c out ≡ lineIn d out′) ↔ (c ≡ d)
+  -- 'The line has no LF.'
+  pub no-lf : (c : Command) (out : List ℕ) → NotRefused c out → breaks (lineIn c out) ≡ 0
+  -- not refused exactly if there is room and no cause of the command's own holds
+  pub accepts : (c : Command) (out : List ℕ) → NotRefused c out ↔ ((leastOutput ≤ length out) × (first (ownCauses c) ≡ 0))

@@ -6,6 +6,13 @@ use lib.Signed.{leZ}
 use Rattle.moment.specs.Moment.{shortest, longest, largerOf, smallerOf, floorHalf}
 use Rattle.moment.specs.Intervals.{interval, shareOne}
 use Rattle.moment.specs.declared.Interval.{Interval}
+use Rattle.rules.specs.declared.Rule.{Rule}
+use Rattle.rules.specs.declared.Rule.the-variants.{Im, Mm}
+
+-- Where a rule is a number, in an image and from C, im is 0 and mm is 1.
+abbrev pub ruleNumber : Rule → ℕ
+ruleNumber Im = 0
+ruleNumber Mm = 1
 
 -- 'Pass of n adds n times the shortest tick to the lower edge, n times the longest to the upper' (MM-1 and IM-1)
 unfoldable pub widened : ℕ → ℕ → Interval → Interval

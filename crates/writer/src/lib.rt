@@ -11,12 +11,12 @@ use form_lines::write_request;
 use form_lines::write_start;
 use form_lines::write_waiting;
 ghost use mathlib.Core.Path.{_≡_};
-ghost use Rattle.form_lines.specs.Written.{left};
+ghost use Rattle.form_lines.specs.Written.{writeResult};
 ghost use Rattle.writer.specs.Written.{written, writtenReading};
 
-// Writes the line of a command, whose numbers may be outside their limits.
+// Writes the line of a command. One with a number outside its limits, or a first edge above the second, is refused with 2.
 pub fn write_command(out: &mut [u8], command: Command) -> Written
-    ensures { λ r. ⌜ left (r .number) (r .length) (now (out .exit)) ≡ written command (now (out .entry)) ⌝ }
+    ensures { λ r. ⌜ writeResult (r .number) (r .length) (now (out .exit)) ≡ written command (now (out .entry)) ⌝ }
 {
     match command {
         Command::Start {
@@ -36,7 +36,7 @@ pub fn write_command(out: &mut [u8], command: Command) -> Written
 
 // Writes back what a line was read as. Refusals 1 and 2 come after 10.
 pub fn write_reading(out: &mut [u8], reading: Reading) -> Written
-    ensures { λ r. ⌜ left (r .number) (r .length) (now (out .exit)) ≡ writtenReading reading (now (out .entry)) ⌝ }
+    ensures { λ r. ⌜ writeResult (r .number) (r .length) (now (out .exit)) ≡ writtenReading reading (now (out .entry)) ⌝ }
 {
     match reading {
         Reading::Accepted(command) => write_command(out, command),

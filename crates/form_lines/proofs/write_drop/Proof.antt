@@ -23,7 +23,7 @@ returns c =
     let w = c .before .before in
     let tested = w .before .before in
     let start = tested .before .before .before in
-    w .write-numbered .ensures ∙ numbered-form (F.drop (start .args .peer)) "(drop " _ (tested .board-within .ensures) _ _ refl
+    w .write-numbered .ensures ∙ numbered-form (F.drop (start .args .peer)) "(drop " refl _ (tested .board-within .ensures) _ _ refl
 
 pub write-drop-spec : {M : Type 1} → statement M
 write-drop-spec =

@@ -23,7 +23,7 @@ returns c =
     let w = c .before .before in
     let tested = w .before .before in
     let start = tested .before .before .before in
-    w .write-numbered .ensures ∙ numbered-form (F.pass (start .args .ticks)) "(pass " _ (tested .ticks-within .ensures) _ _ refl
+    w .write-numbered .ensures ∙ numbered-form (F.pass (start .args .ticks)) "(pass " refl _ (tested .ticks-within .ensures) _ _ refl
 
 pub write-pass-spec : {M : Type 1} → statement M
 write-pass-spec =

@@ -17,7 +17,7 @@ same-length : tie.Need-same-length
 same-length c = search needs
 
 returns : tie.Need-returns
-returns c = c .before .before .write-bare .ensures ∙ bare-form F.read "(read)" true refl _ refl
+returns c = c .before .before .write-bare .ensures ∙ bare-form F.read "(read)" refl true refl _ refl
 
 pub write-read-spec : {M : Type 1} → statement M
 write-read-spec =

@@ -27,7 +27,7 @@ returns c =
     let tested = w .before .before .before in
     let x = tested .before .before .before .args in
     w .write-edged .ensures
-    ∙ edged-form (F.reply (x .peer) (x .tag) (x .edges)) "(reply " _ (tested .reply-within .ensures) _ (x .peer) (F.text " ") (x .tag) (x .edges) refl
+    ∙ edged-form (F.reply (x .peer) (x .tag) (x .edges)) "(reply " refl _ (tested .reply-within .ensures) _ (x .peer) (F.text " ") (x .tag) (x .edges) refl
 
 pub write-reply-spec : {M : Type 1} → statement M
 write-reply-spec =

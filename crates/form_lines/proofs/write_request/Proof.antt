@@ -23,7 +23,7 @@ returns c =
     let w = c .before .before in
     let tested = w .before .before in
     let start = tested .before .before .before in
-    w .write-numbered .ensures ∙ numbered-form (F.request (start .args .peer)) "(request " _ (tested .board-within .ensures) _ _ refl
+    w .write-numbered .ensures ∙ numbered-form (F.request (start .args .peer)) "(request " refl _ (tested .board-within .ensures) _ _ refl
 
 pub write-request-spec : {M : Type 1} → statement M
 write-request-spec =

@@ -3,7 +3,7 @@ use mathlib.Core.Path.{refl, _∙_}
 use borrow.Author.Needs.{needs}
 use Rattle.rules.specs.declared.Rule.the-variants.{Im, Mm}
 use Rattle.command.specs.Forms as F
-use Rattle.form_lines.proofs.WrittenLaws.{edged-form, rule-left}
+use Rattle.form_lines.proofs.WrittenLaws.{edged-form, rule-written}
 use Rattle.form_lines.proofs.write_start.Statement.{statement}
 use Rattle.form_lines.proofs.write_start.Tie as tie
 
@@ -43,11 +43,11 @@ returns c =
     let told = w .before .before .before .before in
     let tested = told .before .before in
     let x = tested .before .before .args in
-    rule-left
+    rule-written
     (λ r. F.start (x .board) r (x .claim) (x .edges))
     _
     (told .enum-told .given .1)
-    (w .write-edged .ensures ∙ edged-form (F.start (x .board) Im (x .claim) (x .edges)) "(start " _ (tested .start-within .ensures) _ (x .board) (F.rule Im) (x .claim) (x .edges) refl)
+    (w .write-edged .ensures ∙ edged-form (F.start (x .board) Im (x .claim) (x .edges)) "(start " refl _ (tested .start-within .ensures) _ (x .board) (F.rule Im) (x .claim) (x .edges) refl)
 
 same-length-2 : tie.Need-same-length-2
 same-length-2 c = search needs
@@ -58,11 +58,11 @@ returns-2 c =
     let told = w .before .before .before .before in
     let tested = told .before .before in
     let x = tested .before .before .args in
-    rule-left
+    rule-written
     (λ r. F.start (x .board) r (x .claim) (x .edges))
     _
     (told .enum-told2 .given .1)
-    (w .write-edged2 .ensures ∙ edged-form (F.start (x .board) Mm (x .claim) (x .edges)) "(start " _ (tested .start-within .ensures) _ (x .board) (F.rule Mm) (x .claim) (x .edges) refl)
+    (w .write-edged2 .ensures ∙ edged-form (F.start (x .board) Mm (x .claim) (x .edges)) "(start " refl _ (tested .start-within .ensures) _ (x .board) (F.rule Mm) (x .claim) (x .edges) refl)
 
 pub write-start-spec : {M : Type 1} → statement M
 write-start-spec =

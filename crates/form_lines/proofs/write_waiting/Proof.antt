@@ -17,7 +17,7 @@ same-length : tie.Need-same-length
 same-length c = search needs
 
 returns : tie.Need-returns
-returns c = c .before .before .write-bare .ensures ∙ bare-form F.waiting "(waiting)" true refl _ refl
+returns c = c .before .before .write-bare .ensures ∙ bare-form F.waiting "(waiting)" refl true refl _ refl
 
 pub write-waiting-spec : {M : Type 1} → statement M
 write-waiting-spec =

@@ -1,6 +1,6 @@
 -- `writer::write_command` meets its contract: in each arm the command is the case that the form is of.
 use borrow.Author.Needs.{needs}
-use Rattle.writer.proofs.CommandLaws.{command-left}
+use Rattle.writer.proofs.CommandLaws.{command-written}
 use Rattle.writer.proofs.write_command.Statement.{statement}
 use Rattle.writer.proofs.write_command.Tie as tie
 
@@ -71,43 +71,43 @@ same-length : tie.Need-same-length
 same-length c = search needs
 
 returns : tie.Need-returns
-returns c = command-left _ (c .before .before .before .before .before .command .given .1) (c .before .before .write-start .ensures)
+returns c = command-written _ (c .before .before .before .before .before .command .given .1) (c .before .before .write-start .ensures)
 
 same-length-2 : tie.Need-same-length-2
 same-length-2 c = search needs
 
 returns-2 : tie.Need-returns-2
-returns-2 c = command-left _ (c .before .before .before .before .before .command2 .given .1) (c .before .before .write-pass .ensures)
+returns-2 c = command-written _ (c .before .before .before .before .before .command2 .given .1) (c .before .before .write-pass .ensures)
 
 same-length-3 : tie.Need-same-length-3
 same-length-3 c = search needs
 
 returns-3 : tie.Need-returns-3
-returns-3 c = command-left _ (c .before .before .before .before .before .command3 .given .1) (c .before .before .write-request .ensures)
+returns-3 c = command-written _ (c .before .before .before .before .before .command3 .given .1) (c .before .before .write-request .ensures)
 
 same-length-4 : tie.Need-same-length-4
 same-length-4 c = search needs
 
 returns-4 : tie.Need-returns-4
-returns-4 c = command-left _ (c .before .before .before .before .before .command4 .given .1) (c .before .before .write-reply .ensures)
+returns-4 c = command-written _ (c .before .before .before .before .before .command4 .given .1) (c .before .before .write-reply .ensures)
 
 same-length-5 : tie.Need-same-length-5
 same-length-5 c = search needs
 
 returns-5 : tie.Need-returns-5
-returns-5 c = command-left _ (c .before .before .before .before .before .command5 .given .1) (c .before .before .write-drop .ensures)
+returns-5 c = command-written _ (c .before .before .before .before .before .command5 .given .1) (c .before .before .write-drop .ensures)
 
 same-length-6 : tie.Need-same-length-6
 same-length-6 c = search needs
 
 returns-6 : tie.Need-returns-6
-returns-6 c = command-left _ (c .before .before .before .before .enum-told .given .1) (c .before .before .write-read .ensures)
+returns-6 c = command-written _ (c .before .before .before .before .enum-told .given .1) (c .before .before .write-read .ensures)
 
 same-length-7 : tie.Need-same-length-7
 same-length-7 c = search needs
 
 returns-7 : tie.Need-returns-7
-returns-7 c = command-left _ (c .before .before .before .before .enum-told2 .given .1) (c .before .before .write-waiting .ensures)
+returns-7 c = command-written _ (c .before .before .before .before .enum-told2 .given .1) (c .before .before .write-waiting .ensures)
 
 pub write-command-spec : {M : Type 1} → statement M
 write-command-spec =

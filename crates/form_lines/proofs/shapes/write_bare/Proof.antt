@@ -3,7 +3,7 @@ use mathlib.Core.Path.{sym, _∙_}
 use native.Mathlib.Omega.{arith}
 use borrow.Author.Needs.{needs}
 use Rattle.writing.proofs.PutsLaws.{one-put}
-use Rattle.form_lines.specs.Written.{refusal}
+use Rattle.form_lines.specs.Written.{writeRefusal}
 use Rattle.form_lines.proofs.WrittenLaws.{writes-refused, writes-put}
 use Rattle.form_lines.proofs.shapes.write_bare.Statement.{statement}
 use Rattle.form_lines.proofs.shapes.write_bare.Tie as tie
@@ -12,7 +12,7 @@ refusal-of-requires : tie.Need-refusal-of-requires
 refusal-of-requires c κs = search needs
 
 returns : tie.Need-returns
-unfolding refusal
+unfolding writeRefusal
 returns c = writes-refused _ _ _ _ (c .before .refusal-of .ensures) (c .if1 .taken)
 
 put-bytes-requires : tie.Need-put-bytes-requires
@@ -22,7 +22,7 @@ same-length : tie.Need-same-length
 same-length c = search needs
 
 returns-2 : tie.Need-returns-2
-unfolding refusal
+unfolding writeRefusal
 returns-2 c =
     let put = c .before .before in
     let tested = put .before .before in

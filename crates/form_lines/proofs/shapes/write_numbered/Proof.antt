@@ -6,7 +6,7 @@ use borrow.Author.Tests.{eqb-true, eqb-false, not-true, not-false}
 use lib.ListN.{length-append}
 use Rattle.numeral.proofs.Digits.{digits-most}
 use Rattle.writing.proofs.PutsLaws.{one-put, _then_}
-use Rattle.form_lines.specs.Written.{refusal}
+use Rattle.form_lines.specs.Written.{writeRefusal}
 use Rattle.form_lines.specs.Lines.{numberedLine}
 use Rattle.form_lines.proofs.WrittenLaws.{writes-refused, writes-put}
 use Rattle.form_lines.proofs.shapes.write_numbered.Statement.{statement}
@@ -16,7 +16,7 @@ refusal-of-requires : tie.Need-refusal-of-requires
 refusal-of-requires c κs = search needs
 
 returns : tie.Need-returns
-unfolding refusal
+unfolding writeRefusal
 returns c = writes-refused _ _ _ _ (c .before .refusal-of .ensures) (c .if1 .taken)
 
 put-bytes-requires : tie.Need-put-bytes-requires
@@ -35,7 +35,7 @@ same-length : tie.Need-same-length
 same-length c = search needs
 
 returns-2 : tie.Need-returns-2
-unfolding refusal numberedLine
+unfolding writeRefusal numberedLine
 returns-2 c =
     let p3 = c .before .before in
     let p2 = p3 .before .before .before .before .before in

@@ -1,22 +1,23 @@
-// Commands written back, for who sends lines: a call for each form, and one that writes the plain spelling of a line. Numbers have 64 bits, so that
-// none is cut short on the way in. An enum can't cross, so a rule is a number: 0 for im, 1 for mm.
+// Commands written back, for who sends lines from C or Rust: a call for each form, and one that writes the plain spelling of a line. Numbers have
+// 64 bits, so that none is cut short on the way in. C can't pass an enum, so a rule is a number: 0 for im, 1 for mm, as in an image. It is an
+// archive of its own: in that of a board the reader would be called in two places, and each line would cost the board more.
 use form_lines::write_drop;
 use form_lines::write_pass;
 use form_lines::write_read;
 use form_lines::write_reply;
 use form_lines::write_request;
-use form_lines::write_start_by_number;
+use form_lines::write_start_with_rule_number;
 use form_lines::write_waiting;
 use moment::Interval;
-use on_image::returned;
 use reader::read_command;
 use writer::write_reading;
+use writing::returned;
 ghost use Rattle.moment.specs.Intervals.{interval};
 ghost use Rattle.command.specs.Forms.{start, pass, request, reply, drop, read, waiting};
 ghost use Rattle.reader.specs.Reading.{readingOf};
 ghost use Rattle.form_lines.specs.Written.{writtenForm, writtenByRule};
 ghost use Rattle.writer.specs.Written.{writtenReading};
-ghost use Rattle.boardtime_lib.specs.Commands.{Leaves};
+ghost use Rattle.boardtime_uplink.specs.Commands.{Returns};
 
 #[no_mangle]
 pub extern "C" fn boardtime_write_start(
@@ -27,16 +28,16 @@ pub extern "C" fn boardtime_write_start(
     lower: i64,
     upper: i64,
 ) -> u32
-    ensures { λ r. ⌜ Leaves (writtenByRule rule (λ x. start board x claim (interval lower upper)) (now (out .entry))) r (now (out .exit)) ⌝ }
+    ensures { λ r. ⌜ Returns (writtenByRule rule (λ x. start board x claim (interval lower upper)) (now (out .entry))) r (now (out .exit)) ⌝ }
 {
     let edges = Interval { lower, upper };
-    let written = write_start_by_number(out, board, rule, claim, edges);
+    let written = write_start_with_rule_number(out, board, rule, claim, edges);
     returned(written.number, written.length)
 }
 
 #[no_mangle]
 pub extern "C" fn boardtime_write_pass(out: &mut [u8], ticks: u64) -> u32
-    ensures { λ r. ⌜ Leaves (writtenForm (pass ticks) (now (out .entry))) r (now (out .exit)) ⌝ }
+    ensures { λ r. ⌜ Returns (writtenForm (pass ticks) (now (out .entry))) r (now (out .exit)) ⌝ }
 {
     let written = write_pass(out, ticks);
     returned(written.number, written.length)
@@ -44,7 +45,7 @@ pub extern "C" fn boardtime_write_pass(out: &mut [u8], ticks: u64) -> u32
 
 #[no_mangle]
 pub extern "C" fn boardtime_write_request(out: &mut [u8], peer: u64) -> u32
-    ensures { λ r. ⌜ Leaves (writtenForm (request peer) (now (out .entry))) r (now (out .exit)) ⌝ }
+    ensures { λ r. ⌜ Returns (writtenForm (request peer) (now (out .entry))) r (now (out .exit)) ⌝ }
 {
     let written = write_request(out, peer);
     returned(written.number, written.length)
@@ -58,7 +59,7 @@ pub extern "C" fn boardtime_write_reply(
     trailing: i64,
     leading: i64,
 ) -> u32
-    ensures { λ r. ⌜ Leaves (writtenForm (reply peer tag (interval trailing leading)) (now (out .entry))) r (now (out .exit)) ⌝ }
+    ensures { λ r. ⌜ Returns (writtenForm (reply peer tag (interval trailing leading)) (now (out .entry))) r (now (out .exit)) ⌝ }
 {
     let edges = Interval {
         lower: trailing,
@@ -70,7 +71,7 @@ pub extern "C" fn boardtime_write_reply(
 
 #[no_mangle]
 pub extern "C" fn boardtime_write_drop(out: &mut [u8], peer: u64) -> u32
-    ensures { λ r. ⌜ Leaves (writtenForm (drop peer) (now (out .entry))) r (now (out .exit)) ⌝ }
+    ensures { λ r. ⌜ Returns (writtenForm (drop peer) (now (out .entry))) r (now (out .exit)) ⌝ }
 {
     let written = write_drop(out, peer);
     returned(written.number, written.length)
@@ -78,7 +79,7 @@ pub extern "C" fn boardtime_write_drop(out: &mut [u8], peer: u64) -> u32
 
 #[no_mangle]
 pub extern "C" fn boardtime_write_read(out: &mut [u8]) -> u32
-    ensures { λ r. ⌜ Leaves (writtenForm read (now (out .entry))) r (now (out .exit)) ⌝ }
+    ensures { λ r. ⌜ Returns (writtenForm read (now (out .entry))) r (now (out .exit)) ⌝ }
 {
     let written = write_read(out);
     returned(written.number, written.length)
@@ -86,7 +87,7 @@ pub extern "C" fn boardtime_write_read(out: &mut [u8]) -> u32
 
 #[no_mangle]
 pub extern "C" fn boardtime_write_waiting(out: &mut [u8]) -> u32
-    ensures { λ r. ⌜ Leaves (writtenForm waiting (now (out .entry))) r (now (out .exit)) ⌝ }
+    ensures { λ r. ⌜ Returns (writtenForm waiting (now (out .entry))) r (now (out .exit)) ⌝ }
 {
     let written = write_waiting(out);
     returned(written.number, written.length)
@@ -95,7 +96,7 @@ pub extern "C" fn boardtime_write_waiting(out: &mut [u8]) -> u32
 // Writes the plain spelling of the command that a line is read as. A buffer that is too short is refused before the line's own refusals.
 #[no_mangle]
 pub extern "C" fn boardtime_plain(line: &[u8], out: &mut [u8]) -> u32
-    ensures { λ r. ⌜ Leaves (writtenReading (readingOf (now (line .entry))) (now (out .entry))) r (now (out .exit)) ⌝ }
+    ensures { λ r. ⌜ Returns (writtenReading (readingOf (now (line .entry))) (now (out .entry))) r (now (out .exit)) ⌝ }
 {
     let reading = read_command(line);
     let written = write_reading(out, reading);

@@ -1,9 +1,9 @@
--- `form_lines::write_start_by_number` meets its contract, by the number of the rule.
+-- `form_lines::write_start_with_rule_number` meets its contract, by the number of the rule.
 use borrow.Author.Tests.{eq-eqb, ne-eqb}
 use borrow.Author.Needs.{needs}
 use Rattle.form_lines.specs.Written.{writtenByRule}
-use Rattle.form_lines.proofs.write_start_by_number.Statement.{statement}
-use Rattle.form_lines.proofs.write_start_by_number.Tie as tie
+use Rattle.form_lines.proofs.write_start_with_rule_number.Statement.{statement}
+use Rattle.form_lines.proofs.write_start_with_rule_number.Tie as tie
 
 write-start-requires : tie.Need-write-start-requires
 write-start-requires c κs = search needs
@@ -39,8 +39,8 @@ returns-3 c =
     let second = c .before .before in
     rw (ne-eqb _ 0 (second .before .if1 .left), ne-eqb _ 1 (second .if2 .left)) (c .refuse .ensures)
 
-pub write-start-by-number-spec : {M : Type 1} → statement M
-write-start-by-number-spec =
+pub write-start-with-rule-number-spec : {M : Type 1} → statement M
+write-start-with-rule-number-spec =
     tie.close
     (tie.spec
     write-start-requires

@@ -1,7 +1,7 @@
--- `on_image::returned` meets its contract: a length of 256 at most fits beside the number.
+-- `writing::returned` meets its contract: a length of 256 at most fits beside the number.
 use borrow.Author.Needs.{needs}
-use Rattle.on_image.proofs.returned.Statement.{statement}
-use Rattle.on_image.proofs.returned.Tie as tie
+use Rattle.writing.proofs.returned.Statement.{statement}
+use Rattle.writing.proofs.returned.Tie as tie
 
 cast-result : tie.Need-cast-result
 cast-result c = search needs

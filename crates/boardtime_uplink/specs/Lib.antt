@@ -1,0 +1,2 @@
+-- What the contracts of `boardtime_uplink` cite.
+pub mod Commands
