@@ -1,10 +1,10 @@
 // The line of each form, written to a lent buffer of any length: document 02, order 1. Numbers have 64 bits, so that one that no command can
 // hold is refused, and not cut short.
-use crate::shapes::NO_ROOM;
-use crate::shapes::OUTSIDE_LIMITS;
-use crate::shapes::write_bare;
-use crate::shapes::write_edged;
-use crate::shapes::write_numbered;
+use crate::layouts::NO_ROOM;
+use crate::layouts::OUTSIDE_LIMITS;
+use crate::layouts::write_bare;
+use crate::layouts::write_edged;
+use crate::layouts::write_numbered;
 use command::limits::board_within;
 use command::limits::reply_within;
 use command::limits::start_within;
@@ -13,7 +13,7 @@ use moment::Interval;
 use rules::Rule;
 use writing::LEAST_OUTPUT;
 
-mod shapes;
+mod layouts;
 
 ghost use mathlib.Core.Path.{_≡_};
 ghost use Rattle.command.specs.Forms.{start, pass, request, reply, drop, read, waiting};
@@ -23,16 +23,6 @@ ghost use Rattle.form_lines.specs.Written.{writeResult, writtenForm, ref
 pub struct Written {
     pub number: u8,
     pub length: usize,
-}
-
-pub fn write_start(out: &mut [u8], board: u64, rule: Rule, claim: u64, edges: Interval) -> Written
-    ensures { λ r. ⌜ writeResult (r .number) (r .length) (now (out .exit)) ≡ writtenForm (start board rule claim edges) (now (out .entry)) ⌝ }
-{
-    let kept = start_within(board, claim, edges);
-    match rule {
-        Rule::Im => write_edged(out, kept, b"(start ", board, b" im ", claim, edges),
-        Rule::Mm => write_edged(out, kept, b"(start ", board, b" mm ", claim, edges),
-    }
 }
 
 // Refuses with the number, or with 10 before it, and touches no byte.
@@ -46,6 +36,17 @@ pub fn refuse(out: &[u8], number: u8) -> Written
         };
     }
     Written { number, length: 0 }
+}
+
+// `(start BOARD RULE CLAIM (LOWER UPPER))`
+pub fn write_start(out: &mut [u8], board: u64, rule: Rule, claim: u64, edges: Interval) -> Written
+    ensures { λ r. ⌜ writeResult (r .number) (r .length) (now (out .exit)) ≡ writtenForm (start board rule claim edges) (now (out .entry)) ⌝ }
+{
+    let kept = start_within(board, claim, edges);
+    match rule {
+        Rule::Im => write_edged(out, kept, b"(start ", board, b" im ", claim, edges),
+        Rule::Mm => write_edged(out, kept, b"(start ", board, b" mm ", claim, edges),
+    }
 }
 
 // A start whose rule is a number too: 0 for im, 1 for mm; any other is refused with 2.
@@ -67,18 +68,21 @@ pub fn write_start_with_rule_number(
     refuse(out, OUTSIDE_LIMITS)
 }
 
+// `(pass TICKS)`
 pub fn write_pass(out: &mut [u8], ticks: u64) -> Written
     ensures { λ r. ⌜ writeResult (r .number) (r .length) (now (out .exit)) ≡ writtenForm (pass ticks) (now (out .entry)) ⌝ }
 {
     write_numbered(out, ticks_within(ticks), b"(pass ", ticks)
 }
 
+// `(request PEER)`
 pub fn write_request(out: &mut [u8], peer: u64) -> Written
     ensures { λ r. ⌜ writeResult (r .number) (r .length) (now (out .exit)) ≡ writtenForm (request peer) (now (out .entry)) ⌝ }
 {
     write_numbered(out, board_within(peer), b"(request ", peer)
 }
 
+// `(reply PEER TAG (TRAILING LEADING))`
 pub fn write_reply(out: &mut [u8], peer: u64, tag: u64, edges: Interval) -> Written
     ensures { λ r. ⌜ writeResult (r .number) (r .length) (now (out .exit)) ≡ writtenForm (reply peer tag edges) (now (out .entry)) ⌝ }
 {
@@ -93,18 +97,21 @@ pub fn write_reply(out: &mut [u8], peer: u64, tag: u64, edges: Interval) -> Writ
     )
 }
 
+// `(drop PEER)`
 pub fn write_drop(out: &mut [u8], peer: u64) -> Written
     ensures { λ r. ⌜ writeResult (r .number) (r .length) (now (out .exit)) ≡ writtenForm (drop peer) (now (out .entry)) ⌝ }
 {
     write_numbered(out, board_within(peer), b"(drop ", peer)
 }
 
+// `(read)`
 pub fn write_read(out: &mut [u8]) -> Written
     ensures { λ r. ⌜ writeResult (r .number) (r .length) (now (out .exit)) ≡ writtenForm read (now (out .entry)) ⌝ }
 {
     write_bare(out, b"(read)")
 }
 
+// `(waiting)`
 pub fn write_waiting(out: &mut [u8]) -> Written
     ensures { λ r. ⌜ writeResult (r .number) (r .length) (now (out .exit)) ≡ writtenForm waiting (now (out .entry)) ⌝ }
 {

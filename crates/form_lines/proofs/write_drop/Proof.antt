@@ -1,4 +1,4 @@
--- `form_lines::write_drop` meets its contract: the shape of one number, with the word and the limit of `drop`.
+-- `form_lines::write_drop` meets its contract: the layout of one number, with the word and the limit of `drop`.
 use mathlib.Core.Path.{refl, _∙_}
 use borrow.Author.Needs.{needs}
 use Rattle.command.specs.Forms as F

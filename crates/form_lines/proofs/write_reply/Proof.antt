@@ -1,4 +1,4 @@
--- `form_lines::write_reply` meets its contract: the shape with edges, with the word, the space and the limits of `reply`.
+-- `form_lines::write_reply` meets its contract: the layout with edges, with the word, the space and the limits of `reply`.
 use mathlib.Core.Path.{refl, _∙_}
 use borrow.Author.Needs.{needs}
 use Rattle.command.specs.Forms as F

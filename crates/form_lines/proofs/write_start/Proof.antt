@@ -1,4 +1,4 @@
--- `form_lines::write_start` meets its contract: the shape with edges, with the word and the limits of `start` and the text of its rule.
+-- `form_lines::write_start` meets its contract: the layout with edges, with the word and the limits of `start` and the text of its rule.
 use mathlib.Core.Path.{refl, _∙_}
 use borrow.Author.Needs.{needs}
 use Rattle.rules.specs.declared.Rule.the-variants.{Im, Mm}

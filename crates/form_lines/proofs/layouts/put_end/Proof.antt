@@ -1,4 +1,4 @@
--- `form_lines::shapes::put_end` meets its contract: the parts are put in the order of the definition, and are at most 20 + 1 + 43 + 1 bytes.
+-- `form_lines::layouts::put_end` meets its contract: the parts are put in the order of the definition, and are at most 20 + 1 + 43 + 1 bytes.
 use mathlib.Core.Path.{ap}
 use native.Mathlib.Omega.{arith}
 use borrow.Author.Needs.{needs}
@@ -7,8 +7,8 @@ use Rattle.numeral.proofs.Digits.{digits-most}
 use Rattle.moment.proofs.Integers.{got}
 use Rattle.writing.proofs.PutsLaws.{one-put, _then_, pair-most}
 use Rattle.form_lines.specs.Lines.{edgedEnd}
-use Rattle.form_lines.proofs.shapes.put_end.Statement.{statement}
-use Rattle.form_lines.proofs.shapes.put_end.Tie as tie
+use Rattle.form_lines.proofs.layouts.put_end.Statement.{statement}
+use Rattle.form_lines.proofs.layouts.put_end.Tie as tie
 
 put-number-requires : tie.Need-put-number-requires
 put-number-requires c κs = search needs

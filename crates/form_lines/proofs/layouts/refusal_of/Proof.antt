@@ -1,7 +1,7 @@
--- `form_lines::shapes::refusal_of` meets its contract: the two tests in their order.
+-- `form_lines::layouts::refusal_of` meets its contract: the two tests in their order.
 use Rattle.command.specs.Causes.{first}
-use Rattle.form_lines.proofs.shapes.refusal_of.Statement.{statement}
-use Rattle.form_lines.proofs.shapes.refusal_of.Tie as tie
+use Rattle.form_lines.proofs.layouts.refusal_of.Statement.{statement}
+use Rattle.form_lines.proofs.layouts.refusal_of.Tie as tie
 
 returns : tie.Need-returns
 unfolding first

@@ -1,12 +1,12 @@
--- `form_lines::shapes::write_bare` meets its contract: refused by the number, or the word put at the front.
+-- `form_lines::layouts::write_bare` meets its contract: refused by the number, or the word put at the front.
 use mathlib.Core.Path.{sym, _∙_}
 use native.Mathlib.Omega.{arith}
 use borrow.Author.Needs.{needs}
 use Rattle.writing.proofs.PutsLaws.{one-put}
 use Rattle.form_lines.specs.Written.{writeRefusal}
 use Rattle.form_lines.proofs.WrittenLaws.{writes-refused, writes-put}
-use Rattle.form_lines.proofs.shapes.write_bare.Statement.{statement}
-use Rattle.form_lines.proofs.shapes.write_bare.Tie as tie
+use Rattle.form_lines.proofs.layouts.write_bare.Statement.{statement}
+use Rattle.form_lines.proofs.layouts.write_bare.Tie as tie
 
 refusal-of-requires : tie.Need-refusal-of-requires
 refusal-of-requires c κs = search needs

@@ -1,4 +1,4 @@
--- `form_lines::shapes::write_edged` meets its contract: refused by the number, or the parts one after the other, at most 16 + 20 + 16 + 65 bytes.
+-- `form_lines::layouts::write_edged` meets its contract: refused by the number, or the parts one after the other, at most 16 + 20 + 16 + 65 bytes.
 use mathlib.Core.Path.{sym, _∙_}
 use native.Mathlib.Omega.{arith}
 use borrow.Author.Needs.{needs}
@@ -8,8 +8,8 @@ use Rattle.writing.proofs.PutsLaws.{one-put, _then_}
 use Rattle.form_lines.specs.Written.{writeRefusal}
 use Rattle.form_lines.specs.Lines.{edgedLine}
 use Rattle.form_lines.proofs.WrittenLaws.{writes-refused, writes-put}
-use Rattle.form_lines.proofs.shapes.write_edged.Statement.{statement}
-use Rattle.form_lines.proofs.shapes.write_edged.Tie as tie
+use Rattle.form_lines.proofs.layouts.write_edged.Statement.{statement}
+use Rattle.form_lines.proofs.layouts.write_edged.Tie as tie
 
 refusal-of-requires : tie.Need-refusal-of-requires
 refusal-of-requires c κs = search needs

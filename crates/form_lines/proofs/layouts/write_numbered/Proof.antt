@@ -1,4 +1,4 @@
--- `form_lines::shapes::write_numbered` meets its contract: refused by the number, or the three parts one after the other, at most 16 + 20 + 1 bytes.
+-- `form_lines::layouts::write_numbered` meets its contract: refused by the number, or the three parts one after the other, at most 16 + 20 + 1 bytes.
 use mathlib.Core.Path.{sym, _∙_}
 use native.Mathlib.Omega.{arith}
 use borrow.Author.Needs.{needs}
@@ -9,8 +9,8 @@ use Rattle.writing.proofs.PutsLaws.{one-put, _then_}
 use Rattle.form_lines.specs.Written.{writeRefusal}
 use Rattle.form_lines.specs.Lines.{numberedLine}
 use Rattle.form_lines.proofs.WrittenLaws.{writes-refused, writes-put}
-use Rattle.form_lines.proofs.shapes.write_numbered.Statement.{statement}
-use Rattle.form_lines.proofs.shapes.write_numbered.Tie as tie
+use Rattle.form_lines.proofs.layouts.write_numbered.Statement.{statement}
+use Rattle.form_lines.proofs.layouts.write_numbered.Tie as tie
 
 refusal-of-requires : tie.Need-refusal-of-requires
 refusal-of-requires c κs = search needs
