@@ -1,9 +1,9 @@
 # shellcheck shell=sh
 # Sourced, with `root` set to the repository's folder, by every script that
-# links the library. Finds cargo, then proves and builds the archive, so that
-# what is linked is what the sources say now. The archive's folder is set here
-# whatever the environment says: there, BOARDTIME_LIB_DIR is for builds of rust/
-# outside these scripts.
+# links the library. Finds cargo, then proves and builds the library's two
+# archives, so that what is linked is what the sources say now. Their folder is
+# set here whatever the environment says: there, BOARDTIME_LIB_DIR is for builds
+# of rust/ outside these scripts.
 
 # A shell without a profile does not find cargo where its installer puts it.
 command -v cargo >/dev/null || PATH=$PATH:${CARGO_HOME:-${HOME:-}/.cargo}/bin
@@ -12,4 +12,4 @@ BOARDTIME_LIB_DIR=$root/target/staticlib
 export PATH CARGO_TARGET_DIR BOARDTIME_LIB_DIR
 
 # Standard output is for what the scripts themselves print.
-(cd "$root" && rt staticlib boardtime_lib) >&2
+(cd "$root" && rt staticlib boardtime_lib && rt staticlib boardtime_uplink) >&2

@@ -1,4 +1,4 @@
-# Reads `objdump -dr --no-show-raw-insn` of the archive and prints for each
+# Reads `objdump -dr --no-show-raw-insn` of an archive and prints for each
 # function that it exports the most stack that a call can take, whatever its
 # arguments: its own frame and the deepest frames below it, return addresses
 # and the bytes used below the stack pointer among them. Of a function that is

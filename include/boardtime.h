@@ -1,10 +1,16 @@
 /*
  * boardtime: the time keeper of a board, as a static library.
  *
- * The library is an archive for x86-64 Linux, the only target that the kit
- * builds for: target/staticlib/libboardtime_lib.a, which the command
- * `rt staticlib boardtime_lib` proves and builds. For any other target this
- * header stops the compiler.
+ * The library is two archives for x86-64 Linux, the only target that the kit
+ * builds for. For any other target this header stops the compiler.
+ *   - target/staticlib/libboardtime_lib.a has the calls on an image, for a
+ *     board: boardtime_fresh, boardtime_line and boardtime_pass. The command
+ *     `rt staticlib boardtime_lib` proves and builds it.
+ *   - target/staticlib/libboardtime_uplink.a has the calls that write a line,
+ *     for who sends lines: boardtime_plain and those whose names begin with
+ *     boardtime_write. `rt staticlib boardtime_uplink` proves and builds it.
+ * Neither archive needs the other. A program links those that have its calls,
+ * in any order.
  *
  * The keeper is an image: an array of 232 bytes that the caller owns. A call
  * reads the image and answers; an accepted one makes it the image of the keeper
@@ -69,14 +75,14 @@
 #define BOARDTIME_H
 
 /*
- * Who builds for a target that the archive is not for learns it from the
+ * Who builds for a target that the archives are not for learns it from the
  * compiler and not from the linker. A tool that only reads the declarations,
  * as a static analyser, or a test with a library of its own, defines
  * BOARDTIME_ANY_TARGET. (x32 is x86-64 too, but its size_t has 32 bits.)
  */
 #if !defined(BOARDTIME_ANY_TARGET) \
     && !(defined(__x86_64__) && defined(__LP64__) && defined(__linux__))
-#error "libboardtime_lib.a is for x86-64 Linux alone"
+#error "libboardtime_lib.a and libboardtime_uplink.a are for x86-64 Linux alone"
 #endif
 
 #include <stddef.h>
@@ -125,6 +131,10 @@ extern "C" {
 #define BOARDTIME_WRONG_IMAGE_LENGTH 255
 
 /*
+ * The calls on an image, in libboardtime_lib.a.
+ */
+
+/*
  * Stores the image of a fresh keeper, one that has not started.
  *
  * Returns 0, or 255 with nothing touched.
@@ -169,11 +179,12 @@ uint32_t boardtime_line(uint8_t *image, size_t image_length,
 uint8_t boardtime_pass(uint8_t *image, size_t image_length, uint64_t ticks);
 
 /*
- * The calls below write lines. Each of the first seven writes a command, given
- * as its numbers, as its line: one space between parts, none elsewhere, no
- * leading zero. The line is stored at the front of the output without an LF,
- * and no byte after it is touched. boardtime_line takes it as it stands; the
- * program takes it with an LF behind it, for which the output has room.
+ * The calls that write lines, in libboardtime_uplink.a. Each of the first seven
+ * writes a command, given as its numbers, as its line: one space between parts,
+ * none elsewhere, no leading zero. The line is stored at the front of the
+ * output without an LF, and no byte after it is touched. boardtime_line takes
+ * it as it stands; the program takes it with an LF behind it, for which the
+ * output has room.
  *
  * Each returns the number and the length of the line, to be taken with
  * BOARDTIME_NUMBER and BOARDTIME_LENGTH. The number is 10 if the output is

@@ -1,13 +1,15 @@
-//! Links libboardtime_lib.a from the folder in BOARDTIME_LIB_DIR, or else from
-//! the repository's target/staticlib, where `rt staticlib boardtime_lib`
-//! writes it. Refuses every target but the one that the archive is for.
+//! Links libboardtime_lib.a and libboardtime_uplink.a from the folder in
+//! BOARDTIME_LIB_DIR, or else from the repository's target/staticlib, where
+//! `rt staticlib boardtime_lib` and `rt staticlib boardtime_uplink` write them.
+//! Refuses every target but the one that the archives are for.
 
 use std::env;
 use std::path::{Path, PathBuf};
 use std::process;
 
 const FOLDER: &str = "BOARDTIME_LIB_DIR";
-const ARCHIVE: &str = "libboardtime_lib.a";
+/// Each is the archive lib...a, and `rt staticlib` builds it by this name.
+const ARCHIVES: [&str; 2] = ["boardtime_lib", "boardtime_uplink"];
 /// What cargo says of x86-64 Linux. The width of a pointer tells it from x32.
 const TARGET: [(&str, &str); 3] = [
     ("CARGO_CFG_TARGET_ARCH", "x86_64"),
@@ -17,23 +19,29 @@ const TARGET: [(&str, &str); 3] = [
 
 fn main() {
     let folder = folder();
-    let archive = folder.join(ARCHIVE);
     println!("cargo:rerun-if-env-changed={FOLDER}");
-    println!("cargo:rerun-if-changed={}", archive.display());
     if TARGET.iter().any(|(name, value)| variable(name) != *value) {
         refuse(&format!(
-            "{ARCHIVE} is for x86-64 Linux alone, and this build is for {}",
+            "the archives are for x86-64 Linux alone, and this build is for {}",
             variable("TARGET")
         ));
     }
+    println!("cargo:rustc-link-search=native={}", folder.display());
+    for name in ARCHIVES {
+        link(name, &folder);
+    }
+}
+
+fn link(name: &str, folder: &Path) {
+    let archive = folder.join(format!("lib{name}.a"));
+    println!("cargo:rerun-if-changed={}", archive.display());
     if !archive.is_file() {
         refuse(&format!(
-            "{} does not exist: run `rt staticlib boardtime_lib`, or name its folder in {FOLDER}",
+            "{} does not exist: run `rt staticlib {name}`, or name its folder in {FOLDER}",
             archive.display()
         ));
     }
-    println!("cargo:rustc-link-search=native={}", folder.display());
-    println!("cargo:rustc-link-lib=static=boardtime_lib");
+    println!("cargo:rustc-link-lib=static={name}");
 }
 
 /// A relative path begins at the folder of this package.

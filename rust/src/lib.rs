@@ -1,4 +1,6 @@
-//! The time keeper of a board, over the proved static library `boardtime_lib`.
+//! The time keeper of a board, over the proved static library: `Keeper` and
+//! `image` over its archive libboardtime_lib.a, and `Command`, `plain` and
+//! `lines` over libboardtime_uplink.a.
 //!
 //! ```
 //! use boardtime::{Command, Keeper, Refusal, Rule, OUTPUT_BYTES};
@@ -18,8 +20,9 @@
 //! # Ok::<(), Refusal>(())
 //! ```
 //!
-//! The crate needs no heap. The library is an archive for x86-64 Linux, and for
-//! another target the crate is not built.
+//! The crate needs no heap. It is built with both archives; a program that
+//! makes the calls of one has nothing of the other in it. They are for x86-64
+//! Linux, and for another target the crate is not built.
 
 #![no_std]
 
