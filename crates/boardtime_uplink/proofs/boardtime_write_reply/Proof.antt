@@ -1,8 +1,10 @@
 -- `boardtime_uplink::boardtime_write_reply` meets its contract: its form is written, and handed back as one number.
 use mir.Facts.{toZ-ofZ}
 use borrow.Author.Needs.{needs}
+use Rattle.command.specs.Forms as F
+use Rattle.form_lines.specs.Written.{writtenForm}
 use Rattle.form_lines.proofs.WrittenLaws.{form-bounded}
-use Rattle.boardtime_uplink.proofs.CommandLaws.{length-fits, returns-it}
+use Rattle.boardtime_uplink.proofs.CommandLaws.{length-fits, returns-it, same-edges}
 use Rattle.boardtime_uplink.proofs.boardtime_write_reply.Statement.{statement}
 use Rattle.boardtime_uplink.proofs.boardtime_write_reply.Tie as tie
 
@@ -17,8 +19,12 @@ same-length c = search needs
 
 returns : tie.Need-returns
 returns c =
-    let fits = c .before .before .before .before .before .before .fits in
-    returns-it (rw (toZ-ofZ (fits .trailing), toZ-ofZ (fits .leading)) at (c .before .before .before .write-reply .ensures)) (c .returned .ensures)
+    let written = c .before .before .before in
+    let start = written .before .before .before in
+    let x = start .args in
+    returns-it
+    (same-edges (λ e. writtenForm (F.reply (x .peer) (x .tag) e) (x .out .now)) (toZ-ofZ (start .fits .trailing)) (toZ-ofZ (start .fits .leading)) (written .write-reply .ensures))
+    (c .returned .ensures)
 
 pub boardtime-write-reply-spec : {M : Type 1} → statement M
 boardtime-write-reply-spec =
