@@ -190,12 +190,13 @@ uint8_t boardtime_pass(uint8_t *image, size_t image_length, uint64_t ticks);
  * BOARDTIME_NUMBER and BOARDTIME_LENGTH. The number is 10 if the output is
  * shorter than 256 bytes; else 2 if a number of the command is outside its
  * range or its first edge is above the second; else 0. The numbers 10 and 2
- * come with length 0 and an untouched output.
+ * come with length 0 and an untouched output. What is returned is not 0 for a
+ * line that was written: its number is 0, but it has some length.
  *
- * A line that is written has at most BOARDTIME_LINE_BYTES bytes and is read as
- * the command that it was written from: boardtime_line refuses it with neither
- * 1 nor 2. No two commands have the same line. What a keeper makes of a command
- * no call without an image can know: the numbers 3 to 9 are boardtime_line's.
+ * A line that is written has at most 63 bytes and is read as the command that
+ * it was written from: boardtime_line refuses it with neither 1 nor 2. No two
+ * commands have the same line. What a keeper makes of a command no call without
+ * an image can know: the numbers 3 to 9 are boardtime_line's.
  *
  * All numbers have 64 bits, so that none is cut short on its way here: a board
  * of 256 is refused with 2 and not written as 0, and a negative int that is
@@ -247,7 +248,8 @@ uint32_t boardtime_write_waiting(uint8_t *out, size_t out_length);
  * shorter than 256 bytes; else 1 if the line has no command's shape or is
  * longer than 120 bytes; else 2 if a numeral is outside its range or a first
  * edge is above the second; else 0. The numbers but 0 come with length 0 and an
- * untouched output.
+ * untouched output. A line that still has its LF, or a CR, has no command's
+ * shape.
  */
 uint32_t boardtime_plain(const uint8_t *line, size_t line_length, uint8_t *out,
                          size_t out_length);

@@ -5,7 +5,7 @@
 //! Each stores its line, without an LF, at the front of `out` and touches no
 //! byte after it. It returns 10 if `out` is shorter than 256 bytes, else the
 //! number of another refusal, else 0. A refusal comes with length 0, and `out`
-//! is then as it was.
+//! is then as it was. The ranges are those of `Command`.
 
 pub use crate::returned::Returned;
 

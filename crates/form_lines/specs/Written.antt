@@ -23,12 +23,12 @@ pub record WriteResult : Type 0 where
 abbrev pub writeResult : ℕ → ℕ → List ℕ → WriteResult
 writeResult n l out = record { number = n; length = l; buffer = out }
 
--- 'Refusals 2 and 10 apply to it, 10 first', 10 being 'lent output under 256 bytes'; 'commands added later join in, with the refusals that
+-- 'Refusals 2 and 10 apply to it, 10 first', 10 being 'lent output under 256 bytes'; 'Commands added later join in, with the refusals that
 -- they have before 3': those causes come after 10.
 unfoldable pub writeRefusal : List Cause → List ℕ → ℕ
 writeRefusal causes out = first (cause 10 (ltb (length out) leastOutput) ∷ causes)
 
--- 'Its length is returned': the line stands at the front of the buffer, and every byte behind it is as it was. A refusal 'returns length 0 and
+-- The line stands at the front of the buffer, 'its length is returned', and every byte behind it is as it was. A refusal 'returns length 0 and
 -- leaves the buffer as it was'.
 unfoldable pub writes : List Cause → List ℕ → List ℕ → WriteResult
 writes causes line out =

@@ -17,7 +17,8 @@ use Rattle.changes.specs.Changes.{passedImage, askedImage, endedImage}
 unfoldable pub imageLeft : List ℕ → ℕ → Keeper → List ℕ
 imageLeft before number k = choose (eqb number 0) (λ _. imageOf k) (λ _. before)
 
--- The image after an answer was given: what the answered command changes is stored, from the keeper that it handed back.
+-- The image after an answer was given: what the answered command changes is stored, from the keeper that it handed back. It serves the proof of
+-- a private function: what a command leaves, `CommandImage` says.
 abbrev pub storedAfter : Answer → Keeper → List ℕ → List ℕ
 storedAfter (A.Started board) k image = imageAfter image k
 storedAfter (A.At ticks edges) k image = passedImage image (k .edges) (k .ticks)

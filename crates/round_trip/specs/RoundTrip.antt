@@ -3,7 +3,7 @@
 use mathlib.Core.Path.{_≡_}
 use mathlib.Core.List.{List, _++_}
 use mathlib.Core.Logic.{_↔_}
-use Prim.Native.Nat.{ℕ, _+_, _≤_}
+use Prim.Native.Nat.{ℕ, _≤_}
 use lib.ListN.{length, take, drop}
 use Rattle.writing.specs.Puts.{leastOutput}
 use Rattle.command.specs.Causes.{first, ownCauses}
@@ -33,7 +33,7 @@ pub record RoundTrip : Type 0 where
   pub command-back : (c : Command) (out : List ℕ) → NotRefused c out → readingOf (lineIn c out) ≡ Accepted c
   -- 'Two such commands have equal lines exactly when they are equal.'
   pub same-line : (c d : Command) (out out′ : List ℕ) → NotRefused c out → NotRefused d out′ → (lineIn c out ≡ lineIn d out′) ↔ (c ≡ d)
-  -- 'The line has no LF.'
+  -- 'The line has no LF'
   pub no-lf : (c : Command) (out : List ℕ) → NotRefused c out → breaks (lineIn c out) ≡ 0
   -- not refused exactly if there is room and no cause of the command's own holds
   pub accepts : (c : Command) (out : List ℕ) → NotRefused c out ↔ ((leastOutput ≤ length out) × (first (ownCauses c) ≡ 0))

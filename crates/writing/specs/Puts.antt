@@ -1,4 +1,4 @@
--- What writes one after the other do: bytes, numerals and pairs.
+-- What writes one after the other do: bytes, numerals and pairs; and the least output.
 use mathlib.Core.List.{List, _++_}
 use Prim.Native.Nat.{ℕ, _+_, _≤_}
 use lib.IntN.{ℤ}

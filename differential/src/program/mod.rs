@@ -22,7 +22,8 @@ use run::Ran;
 
 impl Test {
     /// Gives the program this input, and compares all that it writes with what
-    /// the independent implementation answers line by line.
+    /// the independent implementation answers line by line. Then has both sides
+    /// write back each line that was accepted.
     pub fn run_program(&mut self, input: &[u8], delivery: &Delivery) {
         self.tally.case();
         let lines = expected::lines(input);
@@ -38,6 +39,9 @@ impl Test {
         if let Err(difference) = found {
             self.report_program(&difference, input, delivery);
             process::exit(1);
+        }
+        for (line, _) in lines.iter().zip(&numbers).filter(|(_, &number)| number == 0) {
+            self.write_back(line);
         }
     }
 

@@ -45,9 +45,15 @@ impl Test {
         if number != 0 {
             return None;
         }
-        let line = self.holding(line.as_bytes());
+        self.write_back(line.as_bytes());
+        Some(line.into_bytes())
+    }
+
+    /// Has both sides write back a line that is a command, in buffers of its own.
+    pub fn write_back(&mut self, line: &[u8]) {
+        let line = self.holding(line);
+        let before = self.output(SHORTEST_OUTPUT);
         self.plain(&line, &before, Some(0));
-        Some(line.bytes().to_vec())
     }
 
     /// Has both sides read a line and write it back. `number` is what this has
