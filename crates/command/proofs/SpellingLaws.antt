@@ -21,6 +21,7 @@ use Rattle.moment.specs.Moment.{inRange}
 use Rattle.moment.specs.Intervals.{edgesWithin}
 use Rattle.moment.proofs.Integers.{ints}
 use Rattle.moment.proofs.IntervalLaws.{range-read}
+use Rattle.rules.specs.declared.Rule.{Rule}
 use Rattle.rules.specs.declared.Rule.the-variants.{Im, Mm}
 use Rattle.command.specs.Forms as F
 use Rattle.command.specs.Forms.{Form, Part, text, rule, number, edge, IsPart, Spells, IsSpelling, parts}
@@ -82,33 +83,59 @@ edges-numerals e h =
     let (low, high) = both (inRange (e .lower)) (inRange (e .upper)) (both (inRange (e .lower) && inRange (e .upper)) (leZ (e .lower) (e .upper)) h .0) in
     (range-numeral (e .lower) low, range-numeral (e .upper) high)
 
-kept-numerals : (f : Form) → keeps f ≡ true → HaveNumerals (parts f)
-unfolding boardWithin claimWithin ticksWithin tagWithin
-kept-numerals (F.start board r claim edges) h =
-    let (front, e) = both (leb board 15 && leb claim 50000) (edgesWithin edges) h in
-    let (b, c) = both (leb board 15) (leb claim 50000) front in
+-- how many digits the numbers of a form have, by its limits
+abbrev Small : Form → Type 0
+Small (F.start board r claim edges) = (board < 10 ^ 2) × (claim < 10 ^ 5) × (natAbs (edges .lower) < 10 ^ 19) × (natAbs (edges .upper) < 10 ^ 19)
+Small (F.pass ticks) = ticks < 10 ^ 8
+Small (F.request peer) = peer < 10 ^ 2
+Small (F.reply peer tag edges) = (peer < 10 ^ 2) × (tag < 10 ^ 8) × (natAbs (edges .lower) < 10 ^ 19) × (natAbs (edges .upper) < 10 ^ 19)
+Small (F.drop peer) = peer < 10 ^ 2
+Small F.read = Unit {0}
+Small F.waiting = Unit {0}
+
+board-small : (n : ℕ) → boardWithin n ≡ true → n < 10 ^ 2
+unfolding boardWithin
+board-small n h = omega (arith, leb-true n 15 h)
+
+claim-small : (n : ℕ) → claimWithin n ≡ true → n < 10 ^ 5
+unfolding claimWithin
+claim-small n h = omega (arith, leb-true n 50000 h)
+
+ticks-small : (n : ℕ) → ticksWithin n ≡ true → n < 10 ^ 8
+unfolding ticksWithin
+ticks-small n h = omega (arith, leb-true n 86400000 h)
+
+tag-small : (n : ℕ) → tagWithin n ≡ true → n < 10 ^ 8
+unfolding tagWithin
+tag-small n h = omega (arith, leb-true n 16777215 (both (leb 1 n) (leb n 16777215) h .1))
+
+kept-small : (f : Form) → keeps f ≡ true → Small f
+kept-small (F.start board r claim edges) h =
+    let (front, e) = both (boardWithin board && claimWithin claim) (edgesWithin edges) h in
+    let (b, c) = both (boardWithin board) (claimWithin claim) front in
     let (low, high) = edges-numerals edges e in
-    let board-most : board ≤ 15 = leb-true board 15 b in
-    let claim-most : claim ≤ 50000 = leb-true claim 50000 c in
-    (tt, (omega arith, (tt, (omega arith, (tt, (low, (tt, (high, (tt, tt)))))))))
-kept-numerals (F.pass ticks) h =
-    let most : ticks ≤ 86400000 = leb-true ticks 86400000 h in
-    (tt, (omega arith, (tt, tt)))
-kept-numerals (F.request peer) h =
-    let most : peer ≤ 15 = leb-true peer 15 h in
-    (tt, (omega arith, (tt, tt)))
-kept-numerals (F.reply peer tag edges) h =
-    let (front, e) = both (leb peer 15 && (leb 1 tag && leb tag 16777215)) (edgesWithin edges) h in
-    let (p, t) = both (leb peer 15) (leb 1 tag && leb tag 16777215) front in
+    (board-small board b, claim-small claim c, low, high)
+kept-small (F.pass ticks) h = ticks-small ticks h
+kept-small (F.request peer) h = board-small peer h
+kept-small (F.reply peer tag edges) h =
+    let (front, e) = both (boardWithin peer && tagWithin tag) (edgesWithin edges) h in
+    let (p, t) = both (boardWithin peer) (tagWithin tag) front in
     let (low, high) = edges-numerals edges e in
-    let peer-most : peer ≤ 15 = leb-true peer 15 p in
-    let tag-most : tag ≤ 16777215 = leb-true tag 16777215 (both (leb 1 tag) (leb tag 16777215) t .1) in
-    (tt, (omega arith, (tt, (omega arith, (tt, (low, (tt, (high, (tt, tt)))))))))
-kept-numerals (F.drop peer) h =
-    let most : peer ≤ 15 = leb-true peer 15 h in
-    (tt, (omega arith, (tt, tt)))
-kept-numerals F.read h = (tt, tt)
-kept-numerals F.waiting h = (tt, tt)
+    (board-small peer p, tag-small tag t, low, high)
+kept-small (F.drop peer) h = board-small peer h
+kept-small F.read h = tt
+kept-small F.waiting h = tt
+
+small-numerals : (f : Form) → Small f → HaveNumerals (parts f)
+small-numerals (F.start board r claim edges) (b, c, low, high) =
+    (tt, (omega (arith, b), (tt, (omega (arith, c), (tt, (low, (tt, (high, (tt, tt)))))))))
+small-numerals (F.pass ticks) h = (tt, (omega (arith, h), (tt, tt)))
+small-numerals (F.request peer) h = (tt, (omega (arith, h), (tt, tt)))
+small-numerals (F.reply peer tag edges) (p, t, low, high) =
+    (tt, (omega (arith, p), (tt, (omega (arith, t), (tt, (low, (tt, (high, (tt, tt)))))))))
+small-numerals (F.drop peer) h = (tt, (omega (arith, h), (tt, tt)))
+small-numerals F.read h = (tt, tt)
+small-numerals F.waiting h = (tt, tt)
 
 -- a form that no cause of its own refuses keeps its limits, and one that keeps them is refused by none
 pub uncaused-keeps : (f : Form) → first (formCauses f) ≡ 0 → keeps f ≡ true
@@ -125,48 +152,42 @@ kept-uncaused f h = rw h
 
 pub plain-spells : (f : Form) → first (formCauses f) ≡ 0 → IsSpelling f (plainSpelling f)
 unfolding plainSpelling
-plain-spells f h = parts-are (parts f) (kept-numerals f (uncaused-keeps f h))
+plain-spells f h = parts-are (parts f) (small-numerals f (kept-small f (uncaused-keeps f h)))
 
 -- ---- and it is short
 
--- the most bytes of a part
-abbrev partRoom : Part → ℕ
-partRoom (text t) = length (bytes t)
-partRoom (rule r) = 4
-partRoom (number n) = 19
-partRoom (edge z) = 20
+-- the bytes of the parts, added up
+abbrev bytesOf : List Part → ℕ
+bytesOf [] = 0
+bytesOf (p ∷ ps) = length (plainPart p) + bytesOf ps
 
-abbrev partsRoom : List Part → ℕ
-partsRoom [] = 0
-partsRoom (p ∷ ps) = partRoom p + partsRoom ps
-
-signed-length : (z : ℤ) → natAbs z < 10 ^ 19 → length (signedDigits z) ≤ 20
-unfolding signedDigits
-signed-length (pos n) h = omega (arith, digits-most 18 n h)
-signed-length (negsuc n) h = omega (arith, digits-most 18 (suc n) h)
-
-part-most : (p : Part) → HasNumeral p → length (plainPart p) ≤ partRoom p
-part-most (text t) h = omega arith
-part-most (rule Im) h = omega arith
-part-most (rule Mm) h = omega arith
-part-most (number n) h = digits-most 18 n h
-part-most (edge z) h = signed-length z h
-
-parts-most : (ps : List Part) → HaveNumerals ps → length (plainParts ps) ≤ partsRoom ps
+parts-length : (ps : List Part) → length (plainParts ps) ≡ bytesOf ps
 unfolding plainParts
-parts-most [] h = omega arith
-parts-most (p ∷ ps) h = omega (arith, length-append (plainPart p) (plainParts ps), part-most p (h .0), parts-most ps (h .1))
+parts-length [] = refl
+parts-length (p ∷ ps) = length-append (plainPart p) (plainParts ps) ∙ ap (λ (n : ℕ). length (plainPart p) + n) (parts-length ps)
 
--- no form that no cause of its own refuses has more than 94 bytes
-pub plain-most : (f : Form) → first (formCauses f) ≡ 0 → length (plainSpelling f) ≤ 94
+rule-length : (r : Rule) → length (plainPart (rule r)) ≡ 4
+rule-length Im = refl
+rule-length Mm = refl
+
+edge-most : (z : ℤ) → natAbs z < 10 ^ 19 → length (signedDigits z) ≤ 20
+unfolding signedDigits
+edge-most (pos n) h = omega (arith, digits-most 18 n h)
+edge-most (negsuc n) h = omega (arith, digits-most 18 (suc n) h)
+
+small-most : (f : Form) → Small f → bytesOf (parts f) ≤ 63
+small-most (F.start board r claim edges) (b, c, low, high) =
+    omega (arith, digits-most 1 board b, rule-length r, digits-most 4 claim c, edge-most (edges .lower) low, edge-most (edges .upper) high)
+small-most (F.pass ticks) h = omega (arith, digits-most 7 ticks h)
+small-most (F.request peer) h = omega (arith, digits-most 1 peer h)
+small-most (F.reply peer tag edges) (p, t, low, high) =
+    omega (arith, digits-most 1 peer p, digits-most 7 tag t, edge-most (edges .lower) low, edge-most (edges .upper) high)
+small-most (F.drop peer) h = omega (arith, digits-most 1 peer h)
+small-most F.read h = omega arith
+small-most F.waiting h = omega arith
+
+-- no form that no cause of its own refuses has more than 63 bytes: a start with a board of two digits, a claim of five, and two negative edges of
+-- nineteen digits has as many
+pub plain-most : (f : Form) → first (formCauses f) ≡ 0 → length (plainSpelling f) ≤ 63
 unfolding plainSpelling
-plain-most f h = room f (parts-most (parts f) (kept-numerals f (uncaused-keeps f h)))
-  where
-    room : (g : Form) → length (plainParts (parts g)) ≤ partsRoom (parts g) → length (plainParts (parts g)) ≤ 94
-    room (F.start board r claim edges) l = omega (arith, l)
-    room (F.pass ticks) l = omega (arith, l)
-    room (F.request peer) l = omega (arith, l)
-    room (F.reply peer tag edges) l = omega (arith, l)
-    room (F.drop peer) l = omega (arith, l)
-    room F.read l = omega (arith, l)
-    room F.waiting l = omega (arith, l)
+plain-most f h = omega (arith, parts-length (parts f), small-most f (kept-small f (uncaused-keeps f h)))

@@ -8,7 +8,9 @@ use lib.ListN.{length, take, drop}
 use lib.Seq.{take-at}
 use Rattle.writing.specs.Puts.{leastOutput}
 use Rattle.command.specs.Spelling.{plainSpelling}
-use Rattle.command.specs.Limits.{formOf}
+use Rattle.command.specs.Forms as F
+use Rattle.command.specs.Forms.{Form}
+use Rattle.command.specs.Limits.{formOf, commandOf}
 use Rattle.command.specs.Causes.{first, formCauses, ownCauses}
 use Rattle.command.specs.declared.Command.{Command}
 use Rattle.command.specs.declared.Reading.{Reading}
@@ -18,7 +20,7 @@ use Rattle.lines.specs.Lines.{breaks}
 use Rattle.reader.specs.Reading.{readingOf}
 use Rattle.reader.specs.Grammar.{Shaped}
 use Rattle.reader.proofs.GrammarLaws.{reads-the-grammar}
-use Rattle.form_lines.specs.Written.{WriteResult, writeResult}
+use Rattle.form_lines.specs.Written.{WriteResult, writeResult, writtenForm}
 use Rattle.writer.specs.Written.{written}
 use Rattle.writer.proofs.CommandLaws.{written-accepts, written-line}
 use Rattle.round_trip.specs.RoundTrip.{NotRefused, lineIn, RoundTrip}
@@ -50,12 +52,22 @@ line-accepted line c out e room =
 command-back : (c : Command) (out : List ℕ) → NotRefused c out → readingOf (lineIn c out) ≡ Accepted c
 command-back c out e =
     let (is, none) = line-is c out e in
-    let short : length (plainSpelling (formOf c)) ≤ 94 = plain-most (formOf c) none in
+    let short : length (plainSpelling (formOf c)) ≤ 63 = plain-most (formOf c) none in
     let shaped : Shaped (formOf c) (plainSpelling (formOf c)) = record { spelling = plain-spells (formOf c) none; short = omega arith } in
     ap readingOf is ∙ reads-the-grammar (plainSpelling (formOf c)) .command c .1 (shaped, uncaused-keeps (formOf c) none)
 
 same-command : (c d : Command) → _≡_ {A = Reading} (Accepted c) (Accepted d) → c ≡ d
 same-command c d e = cc
+
+form-line : (f : Form) (out : List ℕ) → writtenForm f out ≡ written (commandOf f) out
+unfolding written
+form-line (F.start board r claim edges) out = refl
+form-line (F.pass ticks) out = refl
+form-line (F.request peer) out = refl
+form-line (F.reply peer tag edges) out = refl
+form-line (F.drop peer) out = refl
+form-line F.read out = refl
+form-line F.waiting out = refl
 
 pub round-trip : RoundTrip
 round-trip =
@@ -69,4 +81,5 @@ round-trip =
       );
       no-lf = λ c out e. ap breaks (line-is c out e .0) ∙ plain-unbroken (formOf c);
       accepts = written-accepts;
+      form-line = form-line;
     }

@@ -6,12 +6,14 @@ use mathlib.Core.Logic.{_↔_}
 use Prim.Native.Nat.{ℕ, _≤_}
 use lib.ListN.{length, take, drop}
 use Rattle.writing.specs.Puts.{leastOutput}
+use Rattle.command.specs.Forms.{Form}
+use Rattle.command.specs.Limits.{commandOf}
 use Rattle.command.specs.Causes.{first, ownCauses}
 use Rattle.command.specs.declared.Command.{Command}
 use Rattle.command.specs.declared.Reading.the-variants.{Accepted}
 use Rattle.lines.specs.Lines.{breaks}
 use Rattle.reader.specs.Reading.{readingOf}
-use Rattle.form_lines.specs.Written.{writeResult}
+use Rattle.form_lines.specs.Written.{writeResult, writtenForm}
 use Rattle.writer.specs.Written.{written}
 
 -- The command is not refused in this buffer.
@@ -37,3 +39,6 @@ pub record RoundTrip : Type 0 where
   pub no-lf : (c : Command) (out : List ℕ) → NotRefused c out → breaks (lineIn c out) ≡ 0
   -- not refused exactly if there is room and no cause of the command's own holds
   pub accepts : (c : Command) (out : List ℕ) → NotRefused c out ↔ ((leastOutput ≤ length out) × (first (ownCauses c) ≡ 0))
+  -- A call of the library takes the numbers of a form: what it writes (`writtenForm`) is what is written of the command with these numbers, so that
+  -- every sentence here is one about the library's lines too.
+  pub form-line : (f : Form) (out : List ℕ) → writtenForm f out ≡ written (commandOf f) out
