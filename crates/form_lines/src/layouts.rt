@@ -1,7 +1,7 @@
 // Lines by their layout: two numbers and edges, one number, a word alone. Nothing is put before every test has passed.
 use crate::Written;
+use digits::write::put_number;
 use moment::Interval;
-use numeral::write::put_number;
 use text::output::put_bytes;
 use writing::LEAST_OUTPUT;
 use writing::put_pair;

@@ -4,5 +4,4 @@ pub mod Reading
 pub mod Numerals
 pub mod SignedNumerals
 pub mod Sign
-pub mod Writing
 pub mod RoundTrip

@@ -3,4 +3,3 @@ pub mod Digits
 pub mod Numerals
 pub mod Progress
 pub mod Reading
-pub mod Spelling

@@ -1,3 +1,2 @@
-// Base-ten numerals: document 01, 'Line forms'.
+// Base-ten numerals read: document 01, 'Line forms'.
 pub mod read;
-pub mod write;

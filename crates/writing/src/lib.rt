@@ -1,6 +1,6 @@
 // Parts of a line, put one after the other. Each part asks for no room of its own: where the whole line has room, every part has. And what
 // a call that writes a line returns.
-use numeral::write::put_signed;
+use digits::write::put_signed;
 use text::output::put_bytes;
 ghost use mathlib.Core.Path.{_≡_};
 ghost use Prim.Native.Nat.{_+_, _*_, _≤_};
