@@ -15,7 +15,7 @@ returns : tie.Need-returns
 returns c = c .before .before .four-front .ensures
 
 add-four-front : tie.Need-add-four-front
-add-four-front c = search needs
+add-four-front c = omega arith
 
 four-front-requires-2 : tie.Need-four-front-requires-2
 four-front-requires-2 c κs = search needs

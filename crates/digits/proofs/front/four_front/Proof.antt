@@ -15,7 +15,7 @@ returns : tie.Need-returns
 returns c = c .before .before .two-front .ensures
 
 add-two-front : tie.Need-add-two-front
-add-two-front c = search needs
+add-two-front c = omega arith
 
 two-front-requires-2 : tie.Need-two-front-requires-2
 two-front-requires-2 c κs = search needs

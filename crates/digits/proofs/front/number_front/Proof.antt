@@ -6,7 +6,7 @@ use Rattle.digits.proofs.front.number_front.Statement.{statement}
 use Rattle.digits.proofs.front.number_front.Tie as tie
 
 cast-eight-front : tie.Need-cast-eight-front
-cast-eight-front c = search needs
+cast-eight-front c = omega arith
 
 eight-front-requires : tie.Need-eight-front-requires
 eight-front-requires c κs = search needs
@@ -18,7 +18,7 @@ returns : tie.Need-returns
 returns c = c .before .before .eight-front .ensures
 
 cast-eight-front-2 : tie.Need-cast-eight-front-2
-cast-eight-front-2 c = search needs
+cast-eight-front-2 c = omega arith
 
 eight-front-requires-2 : tie.Need-eight-front-requires-2
 eight-front-requires-2 c κs = search needs
@@ -32,7 +32,7 @@ returns-2 c =
     parts-stop 8 0 n (omega arith) (c .before .before .before .eight-front2 .ensures) (omega arith)
 
 cast-put-eight : tie.Need-cast-put-eight
-cast-put-eight c = search needs
+cast-put-eight c = omega arith
 
 put-eight-requires : tie.Need-put-eight-requires
 put-eight-requires c κs =
@@ -49,7 +49,7 @@ returns-3 c =
     parts-more 8 0 n (omega arith) (c .before .before .before .before .before .before .before .eight-front2 .ensures) (c .before .before .before .before .if3 .left) (c .before .before .put-eight .ensures)
 
 cast-four-front : tie.Need-cast-four-front
-cast-four-front c = search needs
+cast-four-front c = omega arith
 
 four-front-requires : tie.Need-four-front-requires
 four-front-requires c κs = search needs

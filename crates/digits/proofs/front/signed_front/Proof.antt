@@ -31,13 +31,13 @@ returns : tie.Need-returns
 returns c = rw (negative (c .before)) (none-begins (omega arith))
 
 sub-number-front : tie.Need-sub-number-front
-sub-number-front c = search needs
+sub-number-front c = omega arith
 
 part-number-front-start : tie.Need-part-number-front-start
-part-number-front-start c = search needs
+part-number-front-start c = omega arith
 
 part-number-front-end : tie.Need-part-number-front-end
-part-number-front-end c = search needs
+part-number-front-end c = omega arith
 
 number-front-requires : tie.Need-number-front-requires
 number-front-requires c κs = search needs
@@ -52,7 +52,7 @@ returns-2 c =
     rw (negative (c .before .before .before .before .before .before)) (sign-none (omega arith) (lent-put (a .part .now) 1 (omega arith) w) (omega arith) (digits-some _))
 
 slice-write-part : tie.Need-slice-write-part
-slice-write-part c = search needs
+slice-write-part c = omega arith
 
 add-result : tie.Need-add-result
 add-result c =

@@ -8,19 +8,19 @@ use Rattle.digits.proofs.front.two_front.Statement.{statement}
 use Rattle.digits.proofs.front.two_front.Tie as tie
 
 add-if2 : tie.Need-add-if2
-add-if2 c = search needs
+add-if2 c = omega arith
 
 returns : tie.Need-returns
 returns c = none-begins (omega (arith, length-one (c .before .before .before .args .n) (omega arith)))
 
 add-part : tie.Need-add-part
-add-part c = search needs
+add-part c = omega arith
 
 cast-part : tie.Need-cast-part
-cast-part c = search needs
+cast-part c = omega arith
 
 slice-write-part : tie.Need-slice-write-part
-slice-write-part c = search needs
+slice-write-part c = omega arith
 
 same-length : tie.Need-same-length
 same-length c = search needs
@@ -31,7 +31,7 @@ returns-2 c =
     first-begins (a .part .now) (a .more) (a .n) (omega arith) (omega arith)
 
 add-if3 : tie.Need-add-if3
-add-if3 c = search needs
+add-if3 c = omega arith
 
 returns-3 : tie.Need-returns-3
 returns-3 c =

@@ -6,13 +6,13 @@ use Rattle.digits.proofs.width.put_sixteen.Statement.{statement}
 use Rattle.digits.proofs.width.put_sixteen.Tie as tie
 
 cast-put-eight : tie.Need-cast-put-eight
-cast-put-eight c = search needs
+cast-put-eight c = omega arith
 
 put-eight-requires : tie.Need-put-eight-requires
 put-eight-requires c κs = search needs
 
 cast-put-eight-2 : tie.Need-cast-put-eight-2
-cast-put-eight-2 c = search needs
+cast-put-eight-2 c = omega arith
 
 put-eight-requires-2 : tie.Need-put-eight-requires-2
 put-eight-requires-2 c κs =

@@ -7,34 +7,34 @@ use Rattle.digits.proofs.width.put_two.Statement.{statement}
 use Rattle.digits.proofs.width.put_two.Tie as tie
 
 mul-word : tie.Need-mul-word
-mul-word c = search needs
+mul-word c = omega arith
 
 add-word : tie.Need-add-word
-add-word c = search needs
+add-word c = omega arith
 
 mul-word-2 : tie.Need-mul-word-2
-mul-word-2 c = search needs
+mul-word-2 c = omega arith
 
 sub-word : tie.Need-sub-word
-sub-word c = search needs
+sub-word c = omega arith
 
 cast-part : tie.Need-cast-part
-cast-part c = search needs
+cast-part c = omega arith
 
 slice-write-part : tie.Need-slice-write-part
-slice-write-part c = search needs
+slice-write-part c = omega arith
 
 cast-part-2 : tie.Need-cast-part-2
-cast-part-2 c = search needs
+cast-part-2 c = omega arith
 
 add-part : tie.Need-add-part
-add-part c = search needs
+add-part c = omega arith
 
 slice-write-part-2 : tie.Need-slice-write-part-2
 slice-write-part-2 c = rw (length-set _ _ _) (omega arith)
 
 add-result : tie.Need-add-result
-add-result c = search needs
+add-result c = omega arith
 
 same-length : tie.Need-same-length
 same-length c = search needs

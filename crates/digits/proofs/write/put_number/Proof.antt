@@ -10,13 +10,13 @@ returns : tie.Need-returns
 returns c = none-put (omega arith)
 
 sub-number-front : tie.Need-sub-number-front
-sub-number-front c = search needs
+sub-number-front c = omega arith
 
 part-number-front-start : tie.Need-part-number-front-start
-part-number-front-start c = search needs
+part-number-front-start c = omega arith
 
 part-number-front-end : tie.Need-part-number-front-end
-part-number-front-end c = search needs
+part-number-front-end c = omega arith
 
 number-front-requires : tie.Need-number-front-requires
 number-front-requires c κs = search needs

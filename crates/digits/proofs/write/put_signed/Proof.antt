@@ -11,13 +11,13 @@ returns : tie.Need-returns
 returns c = none-put (omega arith)
 
 sub-signed-front : tie.Need-sub-signed-front
-sub-signed-front c = search needs
+sub-signed-front c = omega arith
 
 part-signed-front-start : tie.Need-part-signed-front-start
-part-signed-front-start c = search needs
+part-signed-front-start c = omega arith
 
 part-signed-front-end : tie.Need-part-signed-front-end
-part-signed-front-end c = search needs
+part-signed-front-end c = omega arith
 
 signed-front-requires : tie.Need-signed-front-requires
 signed-front-requires c κs = search needs
