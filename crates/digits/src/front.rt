@@ -9,13 +9,14 @@ ghost use mathlib.Core.Path.{_≡_};
 ghost use Prim.Native.Nat.{_<_, _≤_};
 ghost use lib.IntN.{natAbs};
 ghost use Rattle.numeral.specs.Digits.{digits, signedDigits};
-ghost use Rattle.digits.specs.Front.{Begins};
+ghost use Rattle.digits.specs.Front.{PutFront};
 
-// The numeral of a number of at most two digits, if there is room for it and for `more` bytes behind it; it gives the numeral's length, or 0.
+// Writes the numeral of n, which has at most two digits, at the front of the part and gives its length, if the part has room for it and for `more`
+// bytes behind it; else nothing is touched, and 0 is given. No numeral has more than 20 digits, so that `more` is at most 18.
 fn two_front(part: &mut [u8], n: u32, more: usize) -> usize
     requires { ⌜ n < 100 ⌝ }
     requires { ⌜ more ≤ 18 ⌝ }
-    ensures { λ r. ⌜ Begins (now (part .entry)) (digits n) more (now (part .exit)) r ⌝ }
+    ensures { λ r. ⌜ PutFront (now (part .entry)) (digits n) more (now (part .exit)) r ⌝ }
 {
     if n < 10 {
         if part.len() < 1 + more {
@@ -34,7 +35,7 @@ fn two_front(part: &mut [u8], n: u32, more: usize) -> usize
 fn four_front(part: &mut [u8], n: u32, more: usize) -> usize
     requires { ⌜ n < 10000 ⌝ }
     requires { ⌜ more ≤ 16 ⌝ }
-    ensures { λ r. ⌜ Begins (now (part .entry)) (digits n) more (now (part .exit)) r ⌝ }
+    ensures { λ r. ⌜ PutFront (now (part .entry)) (digits n) more (now (part .exit)) r ⌝ }
 {
     if n < 100 {
         return two_front(part, n, more);
@@ -50,7 +51,7 @@ fn four_front(part: &mut [u8], n: u32, more: usize) -> usize
 fn eight_front(part: &mut [u8], n: u32, more: usize) -> usize
     requires { ⌜ n < 100000000 ⌝ }
     requires { ⌜ more ≤ 8 ⌝ }
-    ensures { λ r. ⌜ Begins (now (part .entry)) (digits n) more (now (part .exit)) r ⌝ }
+    ensures { λ r. ⌜ PutFront (now (part .entry)) (digits n) more (now (part .exit)) r ⌝ }
 {
     if n < 10000 {
         return four_front(part, n, more);
@@ -64,7 +65,7 @@ fn eight_front(part: &mut [u8], n: u32, more: usize) -> usize
 
 // Writes the numeral of n at the front of the part and gives its length. Where it does not fit, nothing is touched, and 0 is given.
 pub fn number_front(part: &mut [u8], n: u64) -> usize
-    ensures { λ r. ⌜ Begins (now (part .entry)) (digits n) 0 (now (part .exit)) r ⌝ }
+    ensures { λ r. ⌜ PutFront (now (part .entry)) (digits n) 0 (now (part .exit)) r ⌝ }
 {
     if n < 100000000 {
         return eight_front(part, n as u32, 0);
@@ -83,7 +84,7 @@ pub fn number_front(part: &mut [u8], n: u64) -> usize
     put_sixteen(part, at, n % 10000000000000000)
 }
 
-// How far z is from 0. `-(z + 1)` is in range at the least z too.
+// The absolute value of z. `-(z + 1)` is in range at the least z too.
 fn magnitude(z: i64) -> u64
     ensures { λ r. ⌜ r ≡ natAbs z ⌝ }
 {
@@ -97,7 +98,7 @@ fn magnitude(z: i64) -> u64
 // As `number_front`, of a signed number: its magnitude, and one '-' before it if it is negative. The '-' is stored last, since only the digits'
 // length tells whether both fit.
 pub fn signed_front(part: &mut [u8], z: i64) -> usize
-    ensures { λ r. ⌜ Begins (now (part .entry)) (signedDigits z) 0 (now (part .exit)) r ⌝ }
+    ensures { λ r. ⌜ PutFront (now (part .entry)) (signedDigits z) 0 (now (part .exit)) r ⌝ }
 {
     let n = magnitude(z);
     if z < 0 {

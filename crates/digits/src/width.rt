@@ -4,8 +4,8 @@ ghost use lib.ListN.{length};
 ghost use Rattle.digits.specs.Width.{lastDigits};
 ghost use Rattle.text.specs.Output.{Put};
 
-// Two digits at a place; it gives the place after them. One word holds both bytes, the lower one first: 256 * two - 2559 * tens is
-// tens + 256 * ones, and 12336 is '0' in both.
+// Two digits at a place; it gives the place after them. One word holds both, the tens in its lower byte, which is stored first:
+// 256 * two - 2559 * tens is tens + 256 * ones, and 12336 is '0' in both bytes.
 pub(crate) fn put_two(part: &mut [u8], at: usize, two: u32) -> usize
     requires { ⌜ two < 100 ⌝ }
     requires { ⌜ at + 2 ≤ length (now part) ⌝ }

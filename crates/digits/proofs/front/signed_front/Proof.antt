@@ -8,7 +8,7 @@ use mir.Facts.{toZ-ofZ}
 use Rattle.numeral.specs.Digits.{digits, signedDigits}
 use Rattle.numeral.proofs.Digits.{digits-some}
 use Rattle.numeral.proofs.Sign.{below-zero, from-zero}
-use Rattle.digits.proofs.FrontLaws.{none-begins, lent-most, lent-put, signed-below, signed-from, sign-begins, sign-none}
+use Rattle.digits.proofs.FrontLaws.{none-front, lent-most, lent-put, signed-below, signed-from, sign-front, sign-none}
 use borrow.Author.Needs.{needs}
 use Rattle.digits.proofs.front.signed_front.Statement.{statement}
 use Rattle.digits.proofs.front.signed_front.Tie as tie
@@ -28,7 +28,7 @@ magnitude-requires : tie.Need-magnitude-requires
 magnitude-requires c κs = search needs
 
 returns : tie.Need-returns
-returns c = rw (negative (c .before)) (none-begins (omega arith))
+returns c = rw (negative (c .before)) (none-front (omega arith))
 
 sub-number-front : tie.Need-sub-number-front
 sub-number-front c = omega arith
@@ -52,7 +52,9 @@ returns-2 c =
     rw (negative (c .before .before .before .before .before .before)) (sign-none (omega arith) (lent-put (a .part .now) 1 (omega arith) w) (omega arith) (digits-some _))
 
 slice-write-part : tie.Need-slice-write-part
-slice-write-part c = omega arith
+slice-write-part c =
+    let a = c .before .before .before .before .before .before .before .before .before .args in
+    omega (arith, lent-most (a .part .now) 1 (omega arith) (c .before .before .before .number-front .ensures))
 
 add-result : tie.Need-add-result
 add-result c =
@@ -66,7 +68,7 @@ returns-3 : tie.Need-returns-3
 returns-3 c =
     let a = c .before .before .before .before .before .before .before .before .before .args in
     let w = c .before .before .before .number-front .ensures in
-    rw (negative (c .before .before .before .before .before .before)) (sign-begins (omega arith) (lent-put (a .part .now) 1 (omega arith) w) (c .if3 .left))
+    rw (negative (c .before .before .before .before .before .before)) (sign-front (omega arith) (lent-put (a .part .now) 1 (omega arith) w) (c .if3 .left))
 
 number-front-requires-2 : tie.Need-number-front-requires-2
 number-front-requires-2 c κs = search needs

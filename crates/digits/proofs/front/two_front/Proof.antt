@@ -2,7 +2,7 @@
 use native.Mathlib.Omega.{arith}
 use Rattle.numeral.proofs.Digits.{length-one}
 use Rattle.digits.proofs.WidthLaws.{length-last, two-digits}
-use Rattle.digits.proofs.FrontLaws.{none-begins, first-begins, put-begins}
+use Rattle.digits.proofs.FrontLaws.{none-front, first-front, put-front}
 use borrow.Author.Needs.{needs}
 use Rattle.digits.proofs.front.two_front.Statement.{statement}
 use Rattle.digits.proofs.front.two_front.Tie as tie
@@ -11,7 +11,7 @@ add-if2 : tie.Need-add-if2
 add-if2 c = omega arith
 
 returns : tie.Need-returns
-returns c = none-begins (omega (arith, length-one (c .before .before .before .args .n) (omega arith)))
+returns c = none-front (omega (arith, length-one (c .before .before .before .args .n) (omega arith)))
 
 add-part : tie.Need-add-part
 add-part c = omega arith
@@ -28,7 +28,7 @@ same-length c = search needs
 returns-2 : tie.Need-returns-2
 returns-2 c =
     let a = c .before .before .before .args in
-    first-begins (a .part .now) (a .more) (a .n) (omega arith) (omega arith)
+    first-front (a .part .now) (a .more) (a .n) (omega arith) (omega arith)
 
 add-if3 : tie.Need-add-if3
 add-if3 c = omega arith
@@ -36,7 +36,7 @@ add-if3 c = omega arith
 returns-3 : tie.Need-returns-3
 returns-3 c =
     let n = c .before .before .before .args .n in
-    rw (two-digits n (omega arith) (omega arith)) (none-begins (omega (arith, length-last 2 n)))
+    rw (two-digits n (omega arith) (omega arith)) (none-front (omega (arith, length-last 2 n)))
 
 put-two-requires : tie.Need-put-two-requires
 put-two-requires c κs = search needs
@@ -47,7 +47,7 @@ same-length-2 c = search needs
 returns-4 : tie.Need-returns-4
 returns-4 c =
     let n = c .before .before .before .before .before .before .before .args .n in
-    rw (two-digits n (omega arith) (omega arith)) (put-begins (omega (arith, length-last 2 n)) (c .before .before .put-two .ensures))
+    rw (two-digits n (omega arith) (omega arith)) (put-front (omega (arith, length-last 2 n)) (c .before .before .put-two .ensures))
 
 pub two-front-spec : {M : Type 1} → statement M
 two-front-spec =
