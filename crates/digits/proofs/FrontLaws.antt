@@ -10,9 +10,9 @@ use lib.Dec.{leb}
 use borrow.Rule.Slice.PartMut.{putMid}
 use lib.IntN.{ℤ, pos, negsuc, natAbs}
 use lib.ListN.{length, take, drop, set, length-append, length-drop, take-append-drop}
-use lib.Seq.{take-at, drop-at, drop-drop, take-all, drop-length, set-split}
+use lib.Seq.{drop-drop, take-all, drop-length, set-split}
 use Rattle.text.specs.Output.{Put}
-use Rattle.text.proofs.OutputLaws.{room-put, put-room, none-put, put-none}
+use Rattle.text.proofs.OutputLaws.{room-put, put-room, none-put, put-none, put-both}
 use Rattle.numeral.specs.Digits.{digits, signedDigits}
 use Rattle.digits.specs.Width.{lastDigits}
 use Rattle.digits.specs.Front.{FrontResult, frontResult, front, PutFront}
@@ -83,16 +83,19 @@ put-front {b} {s} {a} {more} {n} h put =
     let z : 0 + length s ≡ length s = omega arith in
     room-front h (e ∙ rw z) (f ∙ z)
 
--- with no more room asked for, it is a write at the place 0
+-- the other way: where there is room, and, with no more room asked for, always, it is a write at the place 0
+front-put : {b s a : List ℕ} {more n : ℕ} → length s + more ≤ length b → PutFront b s more a n → Put b 0 s a n
+front-put {b} {s} {a} {more} {n} h w =
+    let (e, f) = front-room h w in
+    let z : 0 + length s ≡ length s = omega arith in
+    room-put (omega (arith, h)) (e ∙ rw z) (f ∙ sym z)
+
 pub front-is-put : {b s a : List ℕ} {n : ℕ} → PutFront b s 0 a n → Put b 0 s a n
 front-is-put {b} {s} {a} {n} w =
     by-room
     (length s + 0)
     (length b)
-    (λ h.
-    let (e, f) = front-room h w in
-    let z : 0 + length s ≡ length s = omega arith in
-    room-put (omega (arith, h)) (e ∙ rw z) (f ∙ sym z))
+    (λ h. front-put h w)
     (λ h.
     let (e, f) = front-none h w in
     rw (e, f) (none-put (omega (arith, h))))
@@ -102,14 +105,7 @@ module _ {b s a : List ℕ} {more n : ℕ} where
   pub front-more : {t c : List ℕ} {m : ℕ} → PutFront b s (length t + more) a n → (n ≡ 0 → ⊥) → Put a n t c m → PutFront b (s ++ t) more c m
   front-more {t} {c} {m} w some put =
       let (h, f) = some-room w some in
-      let g = front-room h w .0 in
-      let long : length a ≡ length b = front-length w in
-      let (d, e) = put-room {at = n} (omega arith) put in
-      let both : length (s ++ t) ≡ length s + length t = length-append s t in
-      let kept : take n a ≡ s = rw (g, f) (take-at s (drop (length s) b) (length s) refl) in
-      let past : drop n a ≡ drop (length s) b = rw (g, f) (drop-at s (drop (length s) b) (length s) refl) in
-      let rest : drop (n + length t) a ≡ drop (length (s ++ t)) b = sym (drop-drop (length t) n a) ∙ rw (past, both) (drop-drop (length t) (length s) b) in
-      room-front (omega arith) (d ∙ rw (kept, rest)) (omega arith)
+      put-front (omega (arith, length-append s t)) (put-both (front-put h w) put (omega (arith, h)))
 
   pub front-stop : (t : List ℕ) → PutFront b s (length t + more) a n → n ≡ 0 → 1 ≤ length s → PutFront b (s ++ t) more a 0
   front-stop t w none some =
