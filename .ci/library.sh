@@ -1,6 +1,6 @@
 # shellcheck shell=sh
 # Sourced, with `root` set to the repository's folder, by every script that
-# links the library. Finds cargo, then proves and builds the library's two
+# links the library. Finds cargo, then proves and builds the library's three
 # archives, so that what is linked is what the sources say now. Their folder is
 # set here whatever the environment says: there, BOARDTIME_LIB_DIR is for builds
 # of rust/ outside these scripts.
@@ -12,4 +12,7 @@ BOARDTIME_LIB_DIR=$root/target/staticlib
 export PATH CARGO_TARGET_DIR BOARDTIME_LIB_DIR
 
 # Standard output is for what the scripts themselves print.
-(cd "$root" && rt staticlib boardtime_lib && rt staticlib boardtime_uplink) >&2
+(
+    cd "$root" && rt staticlib boardtime_lib && rt staticlib boardtime_uplink &&
+        rt staticlib boardtime_dates
+) >&2

@@ -1,7 +1,7 @@
 /*
  * boardtime: the time keeper of a board, as a static library.
  *
- * The library is two archives for x86-64 Linux, the only target that the kit
+ * The library is three archives for x86-64 Linux, the only target that the kit
  * builds for. For any other target this header stops the compiler.
  *   - target/staticlib/libboardtime_lib.a has the calls on an image, for a
  *     board: boardtime_fresh, boardtime_line and boardtime_pass. The command
@@ -9,27 +9,32 @@
  *   - target/staticlib/libboardtime_uplink.a has the calls that write a line,
  *     for who sends lines: boardtime_plain and those whose names begin with
  *     boardtime_write. `rt staticlib boardtime_uplink` proves and builds it.
- * Neither archive needs the other. A program links those that have its calls,
- * in any order.
+ *   - target/staticlib/libboardtime_dates.a has the calls that convert dates
+ *     and moments, for boards and who sends lines alike: boardtime_moment_of
+ *     and boardtime_date_of. `rt staticlib boardtime_dates` proves and builds
+ *     it.
+ * No archive needs another. A program links those that have its calls, in any
+ * order.
  *
  * The keeper is an image: an array of 232 bytes that the caller owns. A call
  * reads the image and answers; an accepted one makes it the image of the keeper
- * after it, by storing what the command changed: nothing for a read or a list
- * of the waiting peers. A refused one leaves every byte as it was. Beside these
- * there are calls without an image, which write a command as its line. The
- * library holds nothing between calls, allocates nothing and calls nothing but
- * memcpy.
+ * after it, by storing what the command changed: nothing for a read, a list of
+ * the waiting peers or a window. A refused one leaves every byte as it was.
+ * Beside these there are calls without an image, which write a command as its
+ * line, or convert a date or a moment. The library holds nothing between calls,
+ * allocates nothing and calls nothing but memcpy.
  *
  * What the caller owes:
  *   - every pointer is valid for the length that is passed with it, and is not
- *     null even where that length is 0;
- *   - the image and the output of a call do not overlap, and neither overlaps
- *     the line;
- *   - from entry to return nothing else writes a buffer of the call, or reads
- *     its image or its output. So no interrupt makes a call on an image that it
+ *     null even where that length is 0; one to a date or a moment is valid for
+ *     that, and aligned as its type asks;
+ *   - what a call stores in, as its image, its output, or the date or moment
+ *     that it gives, overlaps nothing else that is passed to it;
+ *   - from entry to return nothing else writes what was passed to the call, or
+ *     reads what it stores in. So no interrupt makes a call on an image that it
  *     may find in the middle of another call: it counts its ticks, and the
- *     main loop passes them. Calls on images and outputs that differ may run
- *     at the same time.
+ *     main loop passes them. Calls that store in different places may run at
+ *     the same time.
  * Nothing else is asked. Every call answers for all bytes, all lengths and all
  * numbers. What C makes of a number before the call is the caller's: a length
  * of -1, as `read` gives for an error, arrives as the largest size_t, for which
@@ -82,7 +87,7 @@
  */
 #if !defined(BOARDTIME_ANY_TARGET) \
     && !(defined(__x86_64__) && defined(__LP64__) && defined(__linux__))
-#error "libboardtime_lib.a and libboardtime_uplink.a are for x86-64 Linux alone"
+#error "the archives libboardtime_*.a are for x86-64 Linux alone"
 #endif
 
 #include <stddef.h>
@@ -126,9 +131,26 @@ extern "C" {
 #define BOARDTIME_TAGS_SPENT 9
 /* The output is shorter than 256 bytes. */
 #define BOARDTIME_SHORT_OUTPUT 10
+/* A date does not exist or lies outside the years 1900 through 2099, or a
+   moment lies outside them and has no date. */
+#define BOARDTIME_NO_DATE 11
+/* A window whose end is not later than its start. */
+#define BOARDTIME_NO_WINDOW 12
 /* The image is not 232 bytes long. Tested before everything else. No call
    without an image returns this. */
 #define BOARDTIME_WRONG_IMAGE_LENGTH 255
+
+/*
+ * A date: the year is 1900 to 2099, the month 1 to 12, the day 1 to the last of
+ * its month in the Gregorian calendar, the hour 0 to 23, the minute and the
+ * second 0 to 59. With any other number the date does not exist: 2000-02-29
+ * exists and 1900-02-29 does not, and no minute has a second 60. The numbers
+ * have 64 bits, so that none is cut short on its way here: a month of 257 is
+ * not taken for 1, and a negative int arrives as a number that no date has.
+ */
+struct boardtime_date {
+    uint64_t year, month, day, hour, minute, second;
+};
 
 /*
  * The calls on an image, in libboardtime_lib.a.
@@ -145,11 +167,11 @@ uint8_t boardtime_fresh(uint8_t *image, size_t image_length);
  * Answers one line, which is given without its LF. The answer, with its LF,
  * is stored at the front of the output, and no byte after it is touched.
  *
- * Returns the number (0, 1 to 10, or 255) and the length of the answer; take
+ * Returns the number (0, 1 to 12, or 255) and the length of the answer; take
  * them with BOARDTIME_NUMBER and BOARDTIME_LENGTH. What is returned is not 0
  * for an accepted line: its number is 0, but its answer has some length. The
  * numbers 10 and 255 come with length 0 and an untouched output; the numbers 1
- * to 9 come with the answer `(no NUMBER)`.
+ * to 9, 11 and 12 come with the answer `(no NUMBER)`.
  */
 uint32_t boardtime_line(uint8_t *image, size_t image_length,
                         const uint8_t *line, size_t line_length,
@@ -179,24 +201,26 @@ uint32_t boardtime_line(uint8_t *image, size_t image_length,
 uint8_t boardtime_pass(uint8_t *image, size_t image_length, uint64_t ticks);
 
 /*
- * The calls that write lines, in libboardtime_uplink.a. Each of the first seven
+ * The calls that write lines, in libboardtime_uplink.a. Each of the first eight
  * writes a command, given as its numbers, as its line: one space between parts,
- * none elsewhere, no leading zero. The line is stored at the front of the
- * output without an LF, and no byte after it is touched. boardtime_line takes
- * it as it stands; the program takes it with an LF behind it, for which the
- * output has room.
+ * none elsewhere, no leading zero but in a date. The line is stored at the
+ * front of the output without an LF, and no byte after it is touched.
+ * boardtime_line takes it as it stands; the program takes it with an LF behind
+ * it, for which the output has room.
  *
  * Each returns the number and the length of the line, to be taken with
  * BOARDTIME_NUMBER and BOARDTIME_LENGTH. The number is 10 if the output is
  * shorter than 256 bytes; else 2 if a number of the command is outside its
- * range or its first edge is above the second; else 0. The numbers 10 and 2
- * come with length 0 and an untouched output. What is returned is not 0 for a
- * line that was written: its number is 0, but it has some length.
+ * range or its first edge is above the second; else, for a window, 11 if one of
+ * its dates does not exist, else 12 if its end is not later than its start;
+ * else 0. The numbers but 0 come with length 0 and an untouched output. What is
+ * returned is not 0 for a line that was written: its number is 0, but it has
+ * some length.
  *
  * A line that is written has at most 63 bytes and is read as the command that
- * it was written from: boardtime_line refuses it with neither 1 nor 2. No two
- * commands have the same line. What a keeper makes of a command no call without
- * an image can know: the numbers 3 to 9 are boardtime_line's.
+ * it was written from: boardtime_line refuses it with none of 1, 2, 11 and 12.
+ * No two commands have the same line. What a keeper makes of a command no call
+ * without an image can know: the numbers 3 to 9 are boardtime_line's.
  *
  * All numbers have 64 bits, so that none is cut short on its way here: a board
  * of 256 is refused with 2 and not written as 0, and a negative int that is
@@ -239,6 +263,13 @@ uint32_t boardtime_write_read(uint8_t *out, size_t out_length);
 /* `(waiting)`, as `(read)`. */
 uint32_t boardtime_write_waiting(uint8_t *out, size_t out_length);
 
+/* `(window SLOT (DATE DATE))`: the slot is 0 to 15, and the end is later than
+   the start. The window holds the moment at which its start begins and not the
+   one at which its end does. */
+uint32_t boardtime_write_window(uint8_t *out, size_t out_length, uint64_t slot,
+                                const struct boardtime_date *start,
+                                const struct boardtime_date *end);
+
 /*
  * Reads a line, which is given without its LF, and writes its command as the
  * calls above do: the line's plain spelling. For every line that can be read
@@ -247,12 +278,36 @@ uint32_t boardtime_write_waiting(uint8_t *out, size_t out_length);
  * Returns the number and the length of the spelling: 10 if the output is
  * shorter than 256 bytes; else 1 if the line has no command's shape or is
  * longer than 120 bytes; else 2 if a numeral is outside its range or a first
- * edge is above the second; else 0. The numbers but 0 come with length 0 and an
- * untouched output. A line that still has its LF, or a CR, has no command's
- * shape.
+ * edge is above the second; else 11 and 12 as above; else 0. The numbers but 0
+ * come with length 0 and an untouched output. A line that still has its LF, or
+ * a CR, has no command's shape.
  */
 uint32_t boardtime_plain(const uint8_t *line, size_t line_length, uint8_t *out,
                          size_t out_length);
+
+/*
+ * The calls that convert dates and moments, in libboardtime_dates.a. A moment
+ * is a number of nanoseconds from 2000-01-01T00:00:00, as an edge is, on a
+ * scale without leap seconds. A moment of 0 that is stored may be that of a
+ * refusal or of 2000-01-01T00:00:00: the number that is returned tells them
+ * apart.
+ */
+
+/*
+ * Stores the moment at which the second of a date begins.
+ *
+ * Returns 0; or 11, with 0 stored, if the date does not exist.
+ */
+uint8_t boardtime_moment_of(const struct boardtime_date *date, int64_t *moment);
+
+/*
+ * Stores the date in whose second a moment falls: the second that began at or
+ * before it, also before 2000.
+ *
+ * Returns 0; or 11, with six zeros stored, if the moment has no date. The
+ * moments from -3155673600000000000 through 3155759999999999999 have one.
+ */
+uint8_t boardtime_date_of(int64_t moment, struct boardtime_date *date);
 
 #ifdef __cplusplus
 }

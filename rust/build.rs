@@ -1,7 +1,8 @@
-//! Links libboardtime_lib.a and libboardtime_uplink.a from the folder in
-//! BOARDTIME_LIB_DIR, or else from the repository's target/staticlib, where
-//! `rt staticlib boardtime_lib` and `rt staticlib boardtime_uplink` write them.
-//! Refuses every target but the one that the archives are for.
+//! Links libboardtime_lib.a, libboardtime_uplink.a and libboardtime_dates.a from
+//! the folder in BOARDTIME_LIB_DIR, or else from the repository's
+//! target/staticlib, where `rt staticlib boardtime_lib`, `rt staticlib
+//! boardtime_uplink` and `rt staticlib boardtime_dates` write them. Refuses every
+//! target but the one that the archives are for.
 
 use std::env;
 use std::path::{Path, PathBuf};
@@ -9,7 +10,7 @@ use std::process;
 
 const FOLDER: &str = "BOARDTIME_LIB_DIR";
 /// Each is the archive lib...a, and `rt staticlib` builds it by this name.
-const ARCHIVES: [&str; 2] = ["boardtime_lib", "boardtime_uplink"];
+const ARCHIVES: [&str; 3] = ["boardtime_lib", "boardtime_uplink", "boardtime_dates"];
 /// What cargo says of x86-64 Linux. The width of a pointer tells it from x32.
 const TARGET: [(&str, &str); 3] = [
     ("CARGO_CFG_TARGET_ARCH", "x86_64"),

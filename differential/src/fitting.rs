@@ -3,11 +3,14 @@
 
 use independent::Keeper;
 
+use crate::date::Date;
 use crate::lent::LONGEST;
 use crate::limits::{
-    Image, LAST_CLAIM, LAST_MOMENT, LAST_PASS, LAST_TAG, LAST_WAIT, PEERS, SHORTEST_OUTPUT,
+    Image, FIRST_DATED, LAST_CLAIM, LAST_DATED, LAST_MOMENT, LAST_PASS, LAST_TAG, LAST_WAIT, PEERS,
+    SECOND, SHORTEST_OUTPUT, SLOTS,
 };
 use crate::random::Random;
+use crate::write::Command;
 
 /// A line for the keeper of this image.
 pub fn line(random: &mut Random, image: &Image) -> Vec<u8> {
@@ -17,12 +20,13 @@ pub fn line(random: &mut Random, image: &Image) -> Vec<u8> {
         start(random)
     } else {
         match random.below(100) {
-            0..=24 => pass(random, &keeper),
-            25..=49 => request(random, &keeper),
-            50..=84 => reply(random, &keeper),
-            85..=90 => format!("(drop {})", peer(random, &keeper)),
-            91..=95 => "(read)".into(),
-            96..=98 => "(waiting)".into(),
+            0..=22 => pass(random, &keeper),
+            23..=46 => request(random, &keeper),
+            47..=80 => reply(random, &keeper),
+            81..=85 => format!("(drop {})", peer(random, &keeper)),
+            86..=89 => "(read)".into(),
+            90..=91 => "(waiting)".into(),
+            92..=98 => window(random, &keeper),
             _ => start(random),
         }
     };
@@ -189,6 +193,38 @@ fn ordered_in_range(random: &mut Random, trailing: i128, leading: i128) -> (i128
     let end = i128::from(LAST_MOMENT);
     let trailing = trailing.clamp(-end, end);
     (trailing, leading.clamp(trailing, end))
+}
+
+/// Mostly a window that can be one.
+fn window(random: &mut Random, keeper: &Keeper) -> String {
+    let slot = if random.one_in(40) {
+        SLOTS as u64
+    } else {
+        random.below(SLOTS as u64)
+    };
+    let (one, mut other) = (date(random, keeper), date(random, keeper));
+    // Dates about the same edge are often the same.
+    if one == other && !random.one_in(20) {
+        other = Date::near(random.between(FIRST_DATED, LAST_DATED));
+    }
+    let (start, end) = if random.one_in(20) {
+        (one, other)
+    } else {
+        (one.min(other), one.max(other))
+    };
+    Command::Window { slot, start, end }.to_string()
+}
+
+/// Mostly a date of a second about an edge of the keeper.
+fn date(random: &mut Random, keeper: &Keeper) -> Date {
+    let edge = random.pick(&[keeper.lower, keeper.upper]);
+    let last = random.pick(&[1, 2, 60, 100_000, 100_000_000]);
+    let moved = random.between(-last, last) * SECOND;
+    let date = Date::near(edge.saturating_add(moved));
+    if random.one_in(40) {
+        return date.with(random.place(6), random.pick(&[0, 13, 31, 60, 99]));
+    }
+    date
 }
 
 fn longest_tick(keeper: &Keeper) -> i128 {

@@ -1,7 +1,7 @@
 //! Gives the proved library and the independent implementation the same calls
 //! and compares everything that they return and store. Every line that they
-//! answer they also write back. Gives the program inputs and compares
-//! everything that it writes.
+//! answer they also write back. Dates and moments they convert both ways. Gives
+//! the program inputs and compares everything that it writes.
 //!
 //! BOARDTIME_PROGRAM names the program. The optional argument is the seed;
 //! without it the run is always the same.
@@ -9,6 +9,8 @@
 #![forbid(unsafe_code)]
 
 mod answer;
+mod convert;
+mod date;
 mod fitting;
 mod kinds;
 mod lent;
@@ -17,6 +19,7 @@ mod program;
 mod random;
 mod tally;
 mod test;
+mod touching;
 mod write;
 
 use std::env;
@@ -52,6 +55,10 @@ fn main() -> ExitCode {
         "writing: {} commands, {} lines written back, 0 mismatches",
         test.tally.writes.command_count(),
         test.tally.writes.plain_count()
+    );
+    println!(
+        "dates: {} conversions, 0 mismatches",
+        test.tally.conversions.count()
     );
     println!("{}, 0 mismatches", test.tally.program);
     println!(

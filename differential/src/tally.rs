@@ -1,21 +1,23 @@
 //! What a run has counted, and whether it reached enough of everything.
 
 use crate::answer::word;
+use crate::convert::ConvertTally;
 use crate::limits::LAST_PASS;
 use crate::program::ProgramTally;
+use crate::touching::TouchTally;
 use crate::write::WriteTally;
 
 /// Everything that has to occur has to occur this often.
 const ENOUGH: u64 = 1000;
 
 /// The numbers that each call can return.
-const LINE_NUMBERS: [u8; 12] = [0, 1, 2, 3, 4, 5, 6, 7, 8, 9, 10, 255];
+const LINE_NUMBERS: [u8; 14] = [0, 1, 2, 3, 4, 5, 6, 7, 8, 9, 10, 11, 12, 255];
 const PASS_NUMBERS: [u8; 5] = [0, 2, 3, 5, 255];
 const FRESH_NUMBERS: [u8; 2] = [0, 255];
 
-/// Each command with the numbers, from 0 through 9, that it can be given. A
-/// line with number 1 is no command but may begin like one.
-const COMMANDS: [(&str, &[u8]); 7] = [
+/// Each command with the numbers, but 10 and 255, that it can be given. A line
+/// with number 1 is no command but may begin like one.
+const COMMANDS: [(&str, &[u8]); 8] = [
     ("start", &[0, 1, 2, 3]),
     ("pass", &[0, 1, 2, 3, 5]),
     ("request", &[0, 1, 2, 3, 4, 6, 9]),
@@ -23,12 +25,17 @@ const COMMANDS: [(&str, &[u8]); 7] = [
     ("drop", &[0, 1, 2, 3, 4, 7]),
     ("read", &[0, 1, 3]),
     ("waiting", &[0, 1, 3]),
+    ("window", &[0, 1, 2, 3, 11, 12]),
 ];
 
 /// The words of the answers to accepted lines.
-const ANSWERS: [&str; 9] = [
-    "started", "at", "sent", "taken", "kept", "conflict", "dropped", "time", "waiting",
+const ANSWERS: [&str; 12] = [
+    "started", "at", "sent", "taken", "kept", "conflict", "dropped", "time", "waiting", "open",
+    "shut", "unsure",
 ];
+
+/// Widths that a number could be cut to.
+pub const WIDTHS: [u32; 3] = [8, 16, 32];
 
 /// How often each number was returned.
 pub type Numbers = [u64; 256];
@@ -42,6 +49,8 @@ pub struct Tally {
     /// Passes whose lower 32 bits alone would meet the limit.
     cut_passes: u64,
     freshes: Numbers,
+    pub touching: TouchTally,
+    pub conversions: ConvertTally,
     pub writes: WriteTally,
     pub program: ProgramTally,
 }
@@ -56,6 +65,8 @@ impl Tally {
             passes: [0; 256],
             cut_passes: 0,
             freshes: [0; 256],
+            touching: TouchTally::default(),
+            conversions: ConvertTally::new(),
             writes: WriteTally::new(),
             program: ProgramTally::default(),
         }
@@ -127,6 +138,7 @@ impl Tally {
         );
         print_numbers("boardtime_fresh", &self.freshes);
         self.writes.print();
+        self.conversions.print();
         println!("lines by the word that they begin with and the number returned:");
         for ((command, _), counts) in COMMANDS.iter().zip(&self.commands) {
             print_numbers(command, counts);
@@ -135,6 +147,7 @@ impl Tally {
         for (answer, count) in ANSWERS.iter().zip(&self.answers) {
             println!("  {count:>8}  {answer}");
         }
+        self.touching.print();
         self.program.print();
     }
 
@@ -160,6 +173,8 @@ impl Tally {
                 "less than {ENOUGH} passes whose lower 32 bits would be accepted"
             ));
         }
+        missing.extend(self.touching.missing(ENOUGH));
+        missing.extend(self.conversions.missing(ENOUGH));
         missing.extend(self.writes.missing(ENOUGH));
         missing.extend(self.program.missing(ENOUGH));
         missing

@@ -122,6 +122,11 @@ impl Test {
         pattern
     }
 
+    /// What a place holds before a call stores in it.
+    pub fn word(&mut self) -> u64 {
+        self.random.next()
+    }
+
     /// An output of this length.
     pub fn output(&mut self, length: usize) -> Lent {
         Lent::new(&self.pattern(), self.random.place(PLACES), length)
@@ -212,7 +217,7 @@ impl Outcome {
 /// Where the image has the wrong length, nothing else was tested.
 fn written_back(number: u8) -> Option<u8> {
     match number {
-        1 | 2 | 10 => Some(number),
+        1 | 2 | 10 | 11 | 12 => Some(number),
         library::WRONG_LENGTH => None,
         _ => Some(0),
     }

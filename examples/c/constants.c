@@ -20,6 +20,16 @@
    bytes. */
 #define LONGEST_WRITTEN \
     "(start 15 mm 50000 (-4000000000000000000 -3999999999999999999))"
+/* The longest window that is written. */
+#define LONGEST_WINDOW "(window 15 (1900-01-01T00:00:00 2099-12-31T23:59:59))"
+#define FIRST_DATED INT64_C(-3155673600000000000)
+#define LAST_DATED INT64_C(3155759999999999999)
+
+/* The first second that has a date, the last one, and what is no date. */
+static const struct boardtime_date first = {1900, 1, 1, 0, 0, 0};
+static const struct boardtime_date last = {2099, 12, 31, 23, 59, 59};
+static const struct boardtime_date none = {1900, 2, 29, 0, 0, 0};
+static const struct boardtime_date zeros;
 
 /* One more than an image and an output, for a length that is too great. */
 static uint8_t image[BOARDTIME_IMAGE_BYTES + 1];
@@ -88,6 +98,32 @@ static uint32_t start_of(uint64_t board, uint64_t rule)
                                  -1000, 1000);
 }
 
+static uint32_t window_of(uint64_t slot, const struct boardtime_date *begin,
+                          const struct boardtime_date *end)
+{
+    return boardtime_write_window(out, BOARDTIME_OUTPUT_BYTES, slot, begin, end);
+}
+
+/* Whether a date has this moment; one that has none is stored as 0. */
+static uint8_t moment_of(const struct boardtime_date *date, int64_t moment)
+{
+    int64_t stored = 5;
+    uint8_t number = boardtime_moment_of(date, &stored);
+
+    HOLDS(stored == moment);
+    return number;
+}
+
+/* Whether a moment has this date; if it has none, six zeros are stored. */
+static uint8_t date_of(int64_t moment, const struct boardtime_date *date)
+{
+    struct boardtime_date stored = {5, 5, 5, 5, 5, 5};
+    uint8_t number = boardtime_date_of(moment, &stored);
+
+    HOLDS(memcmp(&stored, date, sizeof stored) == 0);
+    return number;
+}
+
 static uint32_t plain_of(const char *line)
 {
     return boardtime_plain((const uint8_t *)line, strlen(line), out,
@@ -145,6 +181,7 @@ static void refused_output(size_t length)
     HELD(BOARDTIME_SHORT_OUTPUT, boardtime_write_drop(out, length, 16));
     HELD(BOARDTIME_SHORT_OUTPUT, boardtime_write_read(out, length));
     HELD(BOARDTIME_SHORT_OUTPUT, boardtime_write_waiting(out, length));
+    HELD(BOARDTIME_SHORT_OUTPUT, boardtime_write_window(out, length, 16, &none, &first));
     HELD(BOARDTIME_SHORT_OUTPUT,
          boardtime_plain((const uint8_t *)"(pass 12x7)", 11, out, length));
 }
@@ -215,6 +252,26 @@ static void numbers_of_lines(void)
     HELD(BOARDTIME_NOT_WAITING, number_of("(reply 4 2 (0 0))"));
     HELD(BOARDTIME_ACCEPTED, number_of("(pass 3600001)"));
     HELD(BOARDTIME_TOO_LATE, number_of("(reply 4 1 (0 0))"));
+    HELD(BOARDTIME_ACCEPTED, number_of(LONGEST_WINDOW));
+}
+
+/* All of these come before the test whether the keeper has started. */
+static void numbers_of_windows(void)
+{
+    boardtime_fresh(image, BOARDTIME_IMAGE_BYTES);
+    HELD(BOARDTIME_NO_SHAPE,
+         number_of("(window 16 (1900-2-29T00:00:00 1900-01-01T00:00:00))"));
+    HELD(BOARDTIME_OUTSIDE_RANGE,
+         number_of("(window 16 (1900-02-29T00:00:00 1900-01-01T00:00:00))"));
+    HELD(BOARDTIME_NO_DATE,
+         number_of("(window 15 (1900-02-29T00:00:00 1900-01-01T00:00:00))"));
+    HELD(BOARDTIME_NO_DATE,
+         number_of("(window 15 (2100-01-01T00:00:00 1900-01-01T00:00:00))"));
+    HELD(BOARDTIME_NO_WINDOW,
+         number_of("(window 15 (2000-02-29T00:00:00 1900-01-01T00:00:00))"));
+    HELD(BOARDTIME_NO_WINDOW,
+         number_of("(window 15 (2000-02-29T00:00:00 2000-02-29T00:00:00))"));
+    HELD(BOARDTIME_WRONG_ORDER, number_of(LONGEST_WINDOW));
 }
 
 /* States that take too many lines to reach. */
@@ -282,9 +339,42 @@ static void numbers_of_written_lines(void)
     HELD(BOARDTIME_OUTSIDE_RANGE, boardtime_write_drop(out, length, 16));
     HOLDS(wrote(boardtime_write_read(out, length), "(read)"));
     HOLDS(wrote(boardtime_write_waiting(out, length), "(waiting)"));
+    HOLDS(wrote(window_of(15, &first, &last), LONGEST_WINDOW));
+    HELD(BOARDTIME_OUTSIDE_RANGE, window_of(16, &none, &first));
+    HELD(BOARDTIME_NO_DATE, window_of(15, &none, &first));
+    HELD(BOARDTIME_NO_DATE, window_of(15, &last, &none));
+    HELD(BOARDTIME_NO_WINDOW, window_of(15, &last, &first));
+    HELD(BOARDTIME_NO_WINDOW, window_of(15, &last, &last));
     HOLDS(wrote(plain_of(START_MM), START_MM));
+    HOLDS(wrote(plain_of(LONGEST_WINDOW), LONGEST_WINDOW));
     HELD(BOARDTIME_NO_SHAPE, plain_of("(pass 12x7)"));
     HELD(BOARDTIME_OUTSIDE_RANGE, plain_of("(pass 86400001)"));
+    HELD(BOARDTIME_NO_DATE,
+         plain_of("(window 15 (1900-02-29T00:00:00 1900-01-01T00:00:00))"));
+    HELD(BOARDTIME_NO_WINDOW,
+         plain_of("(window 15 (2000-02-29T00:00:00 2000-02-29T00:00:00))"));
+}
+
+/* Numbers that all differ, so that none can stand for another, and the ends. */
+static void numbers_of_dates(void)
+{
+    static const struct boardtime_date some = {2001, 2, 3, 4, 5, 6};
+    static const struct boardtime_date before_2000 = {1999, 12, 31, 23, 59, 59};
+    /* The lowest byte of the month is 1. */
+    static const struct boardtime_date month_257 = {2001, 257, 3, 4, 5, 6};
+
+    HELD(BOARDTIME_ACCEPTED, moment_of(&some, INT64_C(34488306000000000)));
+    HELD(BOARDTIME_ACCEPTED, date_of(INT64_C(34488306999999999), &some));
+    HELD(BOARDTIME_ACCEPTED, moment_of(&before_2000, -1000000000));
+    HELD(BOARDTIME_ACCEPTED, date_of(-1, &before_2000));
+    HELD(BOARDTIME_ACCEPTED, moment_of(&first, FIRST_DATED));
+    HELD(BOARDTIME_ACCEPTED, date_of(FIRST_DATED, &first));
+    HELD(BOARDTIME_ACCEPTED, moment_of(&last, LAST_DATED - 999999999));
+    HELD(BOARDTIME_ACCEPTED, date_of(LAST_DATED, &last));
+    HELD(BOARDTIME_NO_DATE, moment_of(&none, 0));
+    HELD(BOARDTIME_NO_DATE, moment_of(&month_257, 0));
+    HELD(BOARDTIME_NO_DATE, date_of(FIRST_DATED - 1, &zeros));
+    HELD(BOARDTIME_NO_DATE, date_of(LAST_DATED + 1, &zeros));
 }
 
 int main(void)
@@ -295,9 +385,11 @@ int main(void)
     longest_answer();
     lengths_of_a_line();
     numbers_of_lines();
+    numbers_of_windows();
     numbers_of_states();
     numbers_of_passes();
     rules_of_a_start();
     numbers_of_written_lines();
+    numbers_of_dates();
     return failures != 0;
 }

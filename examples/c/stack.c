@@ -1,10 +1,11 @@
 /*
  * Prints the stack that each call of the library touches, its return address
  * among it: the most over lines that reach every command, every answer and
- * every refusal, with up to fifteen peers waiting, and over commands that are
- * written, with the longest numerals and refused. A call runs on a stack of
- * its own that is painted before it, and the lowest byte that has another value
- * afterwards is how far the call went down. For x86-64, as the library is.
+ * every refusal, with up to fifteen peers waiting, over commands that are
+ * written, with the longest numerals and refused, and over dates and moments
+ * that are converted. A call runs on a stack of its own that is painted before
+ * it, and the lowest byte that has another value afterwards is how far the call
+ * went down. For x86-64, as the library is.
  */
 #define _XOPEN_SOURCE 700
 #include <stdio.h>
@@ -23,6 +24,9 @@ static size_t line_length;
 static uint64_t ticks;
 static uint64_t board, rule, claim, tag;    /* of a command that is written */
 static int64_t lower, upper;
+static struct boardtime_date from, until;   /* of a window that is written */
+static struct boardtime_date date;          /* of a conversion */
+static int64_t moment;
 static volatile uint32_t returned;
 
 static uint8_t stack[STACK_BYTES];
@@ -51,7 +55,10 @@ NOTED(boardtime_write_reply);
 NOTED(boardtime_write_drop);
 NOTED(boardtime_write_read);
 NOTED(boardtime_write_waiting);
+NOTED(boardtime_write_window);
 NOTED(boardtime_plain);
+NOTED(boardtime_moment_of);
+NOTED(boardtime_date_of);
 
 static void call_fresh(void)
 {
@@ -106,9 +113,25 @@ static void call_write_waiting(void)
     returned = noted_boardtime_write_waiting(out, out_length);
 }
 
+static void call_write_window(void)
+{
+    returned = noted_boardtime_write_window(out, out_length, board, &from,
+                                            &until);
+}
+
 static void call_plain(void)
 {
     returned = noted_boardtime_plain(line, line_length, out, out_length);
+}
+
+static void call_moment_of(void)
+{
+    returned = noted_boardtime_moment_of(&date, &moment);
+}
+
+static void call_date_of(void)
+{
+    returned = noted_boardtime_date_of(moment, &date);
 }
 
 /* How far down a call goes on a stack that is painted in this colour. */
@@ -146,11 +169,14 @@ static void measure(void (*call)(void), size_t *most)
 }
 
 static size_t fresh_most, pass_most, line_most, plain_most;
+static size_t moment_of_most, date_of_most;
 static unsigned seen;   /* a bit for each number that a line was answered with */
 
-/* The numbers that a command without and one with numbers can be given. */
+/* The numbers that a command without numbers, one with numbers and one with
+   dates can be given. */
 #define BARE (1u << BOARDTIME_ACCEPTED | 1u << BOARDTIME_SHORT_OUTPUT)
 #define NUMBERED (BARE | 1u << BOARDTIME_OUTSIDE_RANGE)
+#define DATED (NUMBERED | 1u << BOARDTIME_NO_DATE | 1u << BOARDTIME_NO_WINDOW)
 
 /* The calls that write a command. */
 static struct {
@@ -167,6 +193,7 @@ static struct {
     {"boardtime_write_drop", call_write_drop, NUMBERED, 0, 0},
     {"boardtime_write_read", call_write_read, BARE, 0, 0},
     {"boardtime_write_waiting", call_write_waiting, BARE, 0, 0},
+    {"boardtime_write_window", call_write_window, DATED, 0, 0},
 };
 #define WRITERS (sizeof writers / sizeof writers[0])
 
@@ -210,6 +237,11 @@ static void commands(const char *start)
         "(request 4)", "(reply 4 3 (-4000000000000000000 -1))",
         "(request 4)", "(reply 4 4 (14997000 15001000))",
         "(request 4)", "(drop 4)", "(read)", "(waiting)",
+        "(window 0 (1900-02-29T00:00:00 2000-01-01T00:00:00))",
+        "(window 0 (2000-01-01T00:00:00 2000-01-01T00:00:00))",
+        "(window 15 (1900-01-01T00:00:00 2099-12-31T23:59:59))",
+        "(window 15 (2000-01-01T00:00:01 2000-02-29T00:00:00))",
+        "(window 15 (1999-12-31T23:59:59 2000-01-01T00:00:00))",
     };
 
     begin();
@@ -262,9 +294,17 @@ static void ends(void)
    after the other outside its range, and without room for a line. */
 static void written(void)
 {
+    static const struct boardtime_date first = {1900, 1, 1, 0, 0, 0};
+    static const struct boardtime_date last = {2099, 12, 31, 23, 59, 59};
+
     board = 15, rule = BOARDTIME_MM, claim = 50000, tag = 16777215;
     ticks = 86400000;
     lower = INT64_C(-4000000000000000000), upper = INT64_C(-3999999999999999999);
+    from = first, until = last;
+    write_all();
+    from = last;
+    write_all();
+    until.second = 60;
     write_all();
     upper = lower - 1;
     write_all();
@@ -281,6 +321,28 @@ static void written(void)
     out_length = sizeof out;
 }
 
+/* A moment's date and then that date's moment. A moment that has none leaves six
+   zeros, which are no date. */
+static void converted(int64_t of, unsigned *numbers)
+{
+    moment = of;
+    measure(call_date_of, &date_of_most);
+    *numbers |= 1u << returned;
+    measure(call_moment_of, &moment_of_most);
+    *numbers |= 1u << returned;
+}
+
+/* Moments of every month from before the first year to after the last one. */
+static unsigned conversions(void)
+{
+    const int64_t month = INT64_C(2629746000000000);
+    unsigned numbers = 0;
+
+    for (int64_t of = -1201 * month; of <= 1201 * month; of += month)
+        converted(of, &numbers);
+    return numbers;
+}
+
 int main(void)
 {
     commands("(start 3 im 200 (-1000 1000))");
@@ -288,11 +350,15 @@ int main(void)
     commands("(start 3 mm 200 (-1000 1000))");
     commands_waiting();
     ends();
-    if (seen != 0x3FF) {
-        printf("not every number from 0 to 9 was seen: %x\n", seen);
+    if (seen != 0x1BFF) {
+        printf("not every number from 0 to 12, but 10, was seen: %x\n", seen);
         return 1;
     }
     written();
+    if (conversions() != (1u << BOARDTIME_ACCEPTED | 1u << BOARDTIME_NO_DATE)) {
+        printf("not every number of a conversion was seen\n");
+        return 1;
+    }
     for (size_t i = 0; i < WRITERS; i++)
         if (writers[i].seen != writers[i].numbers) {
             printf("not every number of %s was seen: %x\n", writers[i].name,
@@ -304,5 +370,7 @@ int main(void)
     for (size_t i = 0; i < WRITERS; i++)
         printf("%s %zu\n", writers[i].name, writers[i].most);
     printf("boardtime_plain %zu\n", plain_most);
+    printf("boardtime_moment_of %zu\nboardtime_date_of %zu\n", moment_of_most,
+           date_of_most);
     return 0;
 }

@@ -5,6 +5,7 @@ use crate::command::{Command, Reply, Start};
 use crate::keeper::Keeper;
 use crate::limits::{MAX_PASS, MIN_OUTPUT};
 use crate::refusal::Refusal;
+use crate::window::{Window, WindowState};
 use crate::writer::Writer;
 
 /// What a call returns.
@@ -89,6 +90,7 @@ fn run(keeper: &mut Keeper, line: &[u8], writer: &mut Writer) -> Result<(), Refu
         }
         Command::Read => write_time(keeper, writer),
         Command::Waiting => write_waiting(keeper, writer),
+        Command::Window(window) => write_window(keeper, &window, writer),
     }
     Ok(())
 }
@@ -178,5 +180,16 @@ fn write_waiting(keeper: &Keeper, writer: &mut Writer) {
         writer.count(u64::from(keeper.tags[peer as usize]));
         writer.text(b")");
     }
+    writer.text(b")\n");
+}
+
+/// `(open SLOT)`, or the same with `shut` or `unsure`
+fn write_window(keeper: &Keeper, window: &Window, writer: &mut Writer) {
+    match window.state(keeper.interval()) {
+        WindowState::Open => writer.text(b"(open "),
+        WindowState::Shut => writer.text(b"(shut "),
+        WindowState::Unsure => writer.text(b"(unsure "),
+    }
+    writer.count(u64::from(window.slot));
     writer.text(b")\n");
 }

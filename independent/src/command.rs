@@ -1,16 +1,19 @@
-//! The commands: their shapes and the ranges of their numbers.
+//! The commands: their shapes, the ranges of their numbers and the tests of
+//! their dates.
 //!
 //! A wrong shape comes before a numeral outside its range, so each reading
 //! function first takes the whole line and only then makes the command, which
-//! tests the numbers.
+//! tests the numbers and, after them, the dates.
 
+use crate::date::Date;
 use crate::interval::Interval;
 use crate::keeper::Rule;
-use crate::limits::{BOARDS, MAX_CLAIM, MAX_LINE, MAX_PASS, MAX_REQUESTS};
+use crate::limits::{BOARDS, MAX_CLAIM, MAX_LINE, MAX_PASS, MAX_REQUESTS, SLOTS};
 use crate::reader::Reader;
 use crate::refusal::Refusal;
+use crate::window::Window;
 
-/// A command with numbers within their ranges.
+/// A command with numbers within their ranges and dates that exist.
 pub enum Command {
     Start(Start),
     Pass { ticks: u64 },
@@ -19,6 +22,7 @@ pub enum Command {
     Drop { peer: u8 },
     Read,
     Waiting,
+    Window(Window),
 }
 
 pub struct Start {
@@ -52,6 +56,8 @@ impl Command {
             Command::drop_request(read_peer(reader)?)
         } else if reader.take(b"(start ") {
             read_start(reader)
+        } else if reader.take(b"(window ") {
+            read_window(reader)
         } else if line == b"(read)" {
             Ok(Command::Read)
         } else if line == b"(waiting)" {
@@ -61,8 +67,9 @@ impl Command {
         }
     }
 
-    // The functions below make a command of numbers that are not tested yet.
-    // They take them in 64 bits, so that no number is cut before its test.
+    // The functions below make a command of numbers and dates that are not
+    // tested yet. They take them in 64 bits, so that no number is cut before
+    // its test.
 
     pub fn start(
         board: u64,
@@ -104,6 +111,18 @@ impl Command {
         let peer = board_number(peer)?;
         Ok(Command::Drop { peer })
     }
+
+    /// "11 first, both after 2": the slot is tested first, then both dates, and
+    /// last their order.
+    pub fn window(slot: u64, start: [u64; 6], end: [u64; 6]) -> Result<Command, Refusal> {
+        let slot = at_most(slot, SLOTS as u64 - 1)? as u8;
+        let start = Date::new(start)?;
+        let end = Date::new(end)?;
+        if end.moment() <= start.moment() {
+            return Err(Refusal::NoWindow);
+        }
+        Ok(Command::Window(Window { slot, start, end }))
+    }
 }
 
 /// `TICKS)`
@@ -141,6 +160,17 @@ fn read_start(mut reader: Reader) -> Result<Command, Refusal> {
     let claim = reader.count()?;
     let interval = reader.finish_with_interval()?;
     Command::start(board, rule, claim, interval)
+}
+
+/// `SLOT (DATE DATE))`
+fn read_window(mut reader: Reader) -> Result<Command, Refusal> {
+    let slot = reader.count()?;
+    reader.expect(b" (")?;
+    let start = reader.date()?;
+    reader.expect(b" ")?;
+    let end = reader.date()?;
+    reader.finish(b"))")?;
+    Command::window(slot, start, end)
 }
 
 fn board_number(value: u64) -> Result<u8, Refusal> {

@@ -22,6 +22,16 @@ pub const BOARDS: usize = 16;
 /// Largest number of requests, and so the largest tag.
 pub const MAX_REQUESTS: u32 = 16_777_215;
 
+/// Number of heater slots.
+pub const SLOTS: usize = 16;
+
+/// Length of a second in nanoseconds.
+pub const SECOND: i64 = 1_000_000_000;
+/// First year that has dates.
+pub const FIRST_YEAR: u64 = 1900;
+/// Last year that has dates.
+pub const LAST_YEAR: u64 = 2099;
+
 /// Longest line in bytes, without its LF.
 pub const MAX_LINE: usize = 120;
 /// Most digits in a numeral, its sign not counted.

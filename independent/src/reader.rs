@@ -82,6 +82,42 @@ impl<'a> Reader<'a> {
         Ok(if negative { -value } else { value })
     }
 
+    /// Takes `YYYY-MM-DDTHH:MM:SS` and returns the six fields in this order.
+    ///
+    /// Any digits make the shape. Whether they are a date is tested later,
+    /// because that comes after a numeral outside its range.
+    pub fn date(&mut self) -> Result<[u64; 6], Refusal> {
+        let year = self.field::<4>()?;
+        self.expect(b"-")?;
+        let month = self.field::<2>()?;
+        self.expect(b"-")?;
+        let day = self.field::<2>()?;
+        self.expect(b"T")?;
+        let hour = self.field::<2>()?;
+        self.expect(b":")?;
+        let minute = self.field::<2>()?;
+        self.expect(b":")?;
+        let second = self.field::<2>()?;
+        Ok([year, month, day, hour, minute, second])
+    }
+
+    /// Takes a field of a date, which has `N` digits: "with every field at full
+    /// width".
+    fn field<const N: usize>(&mut self) -> Result<u64, Refusal> {
+        let Some((digits, rest)) = self.rest.split_first_chunk::<N>() else {
+            return Err(Refusal::Shape);
+        };
+        let mut value = 0;
+        for &byte in digits {
+            if !byte.is_ascii_digit() {
+                return Err(Refusal::Shape);
+            }
+            value = value * 10 + u64::from(byte - b'0');
+        }
+        self.rest = rest;
+        Ok(value)
+    }
+
     /// Takes ` (LOWER UPPER))`, which must end the line.
     pub fn finish_with_interval(mut self) -> Result<Interval, Refusal> {
         self.expect(b" (")?;

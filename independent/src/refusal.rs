@@ -24,6 +24,11 @@ pub enum Refusal {
     TagsUsed = 9,
     /// The lent output is too short for an answer.
     ShortOutput = 10,
+    /// A date that does not exist or is outside the years 1900 through 2099,
+    /// or a moment that has no date.
+    NoDate = 11,
+    /// A window whose end is not later than its start.
+    NoWindow = 12,
 }
 
 impl Refusal {

@@ -1,10 +1,11 @@
 //! The line of a command, without an LF.
 //!
-//! A command holds only numbers within their ranges, so every line written
-//! here is read as the same command again.
+//! A command holds only numbers within their ranges and dates that exist, so
+//! every line written here is read as the same command again.
 
 use crate::command::{Command, Reply, Start};
 use crate::keeper::Rule;
+use crate::window::Window;
 use crate::writer::Writer;
 
 impl Command {
@@ -17,6 +18,7 @@ impl Command {
             Command::Drop { peer } => write_one(b"(drop ", u64::from(*peer), writer),
             Command::Read => writer.text(b"(read)"),
             Command::Waiting => writer.text(b"(waiting)"),
+            Command::Window(window) => write_window(window, writer),
         }
     }
 }
@@ -51,4 +53,15 @@ fn write_reply(reply: &Reply, writer: &mut Writer) {
     writer.text(b" ");
     writer.interval(reply.interval);
     writer.text(b")");
+}
+
+/// `(window SLOT (DATE DATE))`
+fn write_window(window: &Window, writer: &mut Writer) {
+    writer.text(b"(window ");
+    writer.count(u64::from(window.slot));
+    writer.text(b" (");
+    writer.date(window.start);
+    writer.text(b" ");
+    writer.date(window.end);
+    writer.text(b"))");
 }

@@ -68,6 +68,12 @@ pub fn write_waiting(out: &mut [u8]) -> Written {
     write(out, Ok(Command::Waiting))
 }
 
+/// `(window SLOT (DATE DATE))`; a date is its year, month, day, hour, minute
+/// and second.
+pub fn write_window(out: &mut [u8], slot: u64, start: [u64; 6], end: [u64; 6]) -> Written {
+    write(out, Command::window(slot, start, end))
+}
+
 /// Reads a line, given without its LF, and writes the command that it is. A
 /// command has one spelling, so the bytes written are those of the line.
 pub fn plain(line: &[u8], out: &mut [u8]) -> Written {

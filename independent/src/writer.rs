@@ -1,5 +1,6 @@
 //! Writing an answer or a command into the output that a caller lends.
 
+use crate::date::Date;
 use crate::interval::Interval;
 use crate::limits::MIN_OUTPUT;
 
@@ -25,12 +26,8 @@ impl<'a> Writer<'a> {
     }
 
     pub fn count(&mut self, value: u64) {
-        let digits = value.checked_ilog10().unwrap_or(0) as usize + 1;
-        let mut rest = value;
-        for place in self.next(digits).iter_mut().rev() {
-            *place = b'0' + (rest % 10) as u8;
-            rest /= 10;
-        }
+        let width = value.checked_ilog10().unwrap_or(0) as usize + 1;
+        self.digits(value, width);
     }
 
     pub fn moment(&mut self, value: i64) {
@@ -47,6 +44,30 @@ impl<'a> Writer<'a> {
         self.text(b" ");
         self.moment(interval.upper);
         self.text(b")");
+    }
+
+    /// `YYYY-MM-DDTHH:MM:SS`, "with every field at full width"
+    pub fn date(&mut self, date: Date) {
+        self.digits(date.year, 4);
+        self.text(b"-");
+        self.digits(date.month, 2);
+        self.text(b"-");
+        self.digits(date.day, 2);
+        self.text(b"T");
+        self.digits(date.hour, 2);
+        self.text(b":");
+        self.digits(date.minute, 2);
+        self.text(b":");
+        self.digits(date.second, 2);
+    }
+
+    /// The last `width` digits of the value, with zeros before a shorter one.
+    fn digits(&mut self, value: u64, width: usize) {
+        let mut rest = value;
+        for place in self.next(width).iter_mut().rev() {
+            *place = b'0' + (rest % 10) as u8;
+            rest /= 10;
+        }
     }
 
     /// The next `count` bytes of the output. The longest answer has 211 bytes

@@ -1,5 +1,6 @@
 //! Commands, written as the lines that a keeper answers.
 
+use crate::date::Date;
 use crate::lines::{self, Returned};
 use crate::refusal::{self, Refusal};
 
@@ -13,8 +14,8 @@ pub enum Rule {
     Mm = 1,
 }
 
-/// A command. Its numbers may be any; those outside their ranges are refused
-/// when it is written.
+/// A command. Its numbers and dates may be any; numbers outside their ranges and
+/// dates that do not exist are refused when it is written.
 #[derive(Clone, Copy, PartialEq, Eq, Hash, Debug)]
 pub enum Command {
     /// `(start BOARD RULE CLAIM (LOWER UPPER))`: a board of 0 to 15, a claim of
@@ -45,6 +46,10 @@ pub enum Command {
     Read,
     /// `(waiting)`
     Waiting,
+    /// `(window SLOT (DATE DATE))`: a slot of 0 to 15, an end later than the
+    /// start. The window holds the moment at which its start begins and not the
+    /// one at which its end does.
+    Window { slot: u64, start: Date, end: Date },
 }
 
 impl Command {
@@ -54,7 +59,9 @@ impl Command {
     ///
     /// Refused with `ShortOutput` if `out` is shorter than `OUTPUT_BYTES`, else
     /// with `OutsideRange` if a number is outside its range or a first edge is
-    /// above the second. `out` is then as it was.
+    /// above the second, else with `NoDate` if a date does not exist, else with
+    /// `NoWindow` if a window's end is not later than its start. `out` is then
+    /// as it was.
     ///
     /// ```
     /// use boardtime::{Command, Refusal, OUTPUT_BYTES};
@@ -85,6 +92,7 @@ impl Command {
             Command::Drop { peer } => lines::write_drop(out, peer),
             Command::Read => lines::write_read(out),
             Command::Waiting => lines::write_waiting(out),
+            Command::Window { slot, start, end } => lines::write_window(out, slot, &start, &end),
         };
         written(returned, out)
     }
@@ -95,8 +103,8 @@ impl Command {
 /// read today that is the line itself.
 ///
 /// Refused with `ShortOutput` if `out` is shorter than `OUTPUT_BYTES`, else with
-/// `NoShape` or `OutsideRange` for what is wrong with the line. `out` is then as
-/// it was.
+/// `NoShape`, `OutsideRange`, `NoDate` or `NoWindow` for what is wrong with the
+/// line. `out` is then as it was.
 ///
 /// ```
 /// use boardtime::{plain, Refusal, OUTPUT_BYTES};

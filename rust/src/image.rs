@@ -30,7 +30,7 @@ pub fn fresh(image: &mut [u8]) -> u8 {
 }
 
 /// Answers one line, given without its LF, at the front of `out`. Returns 0, 1
-/// to 10, or `WRONG_LENGTH`; 10 and `WRONG_LENGTH` come with length 0.
+/// to 12, or `WRONG_LENGTH`; 10 and `WRONG_LENGTH` come with length 0.
 pub fn line(image: &mut [u8], line: &[u8], out: &mut [u8]) -> Returned {
     // SAFETY: the pointers of the slices are not null and each is valid for
     // its length. The image and the output are borrowed mutably, so neither

@@ -1,6 +1,6 @@
 //! The time keeper of a board, over the proved static library: `Keeper` and
-//! `image` over its archive libboardtime_lib.a, and `Command`, `plain` and
-//! `lines` over libboardtime_uplink.a.
+//! `image` over its archive libboardtime_lib.a, `Command`, `plain` and `lines`
+//! over libboardtime_uplink.a, and `Date` and `dates` over libboardtime_dates.a.
 //!
 //! ```
 //! use boardtime::{Command, Keeper, Refusal, Rule, OUTPUT_BYTES};
@@ -20,19 +20,22 @@
 //! # Ok::<(), Refusal>(())
 //! ```
 //!
-//! The crate needs no heap. It is built with both archives; a program that
-//! makes the calls of one has nothing of the other in it. They are for x86-64
+//! The crate needs no heap. It is built with all three archives; a program that
+//! makes the calls of one has nothing of the others in it. They are for x86-64
 //! Linux, and for another target the crate is not built.
 
 #![no_std]
 
 mod command;
+mod date;
+pub mod dates;
 pub mod image;
 pub mod lines;
 mod refusal;
 mod returned;
 
 pub use command::{plain, Command, Rule};
+pub use date::Date;
 pub use refusal::Refusal;
 
 /// Length of an image.

@@ -7,9 +7,12 @@
 //! number of another refusal, else 0. A refusal comes with length 0, and `out`
 //! is then as it was. The ranges are those of `Command`.
 
+use crate::date::Date;
 pub use crate::returned::Returned;
 
 mod foreign {
+    use super::Date;
+
     extern "C" {
         pub fn boardtime_write_start(
             out: *mut u8,
@@ -33,6 +36,13 @@ mod foreign {
         pub fn boardtime_write_drop(out: *mut u8, out_length: usize, peer: u64) -> u32;
         pub fn boardtime_write_read(out: *mut u8, out_length: usize) -> u32;
         pub fn boardtime_write_waiting(out: *mut u8, out_length: usize) -> u32;
+        pub fn boardtime_write_window(
+            out: *mut u8,
+            out_length: usize,
+            slot: u64,
+            start: *const Date,
+            end: *const Date,
+        ) -> u32;
         pub fn boardtime_plain(
             line: *const u8,
             line_length: usize,
@@ -111,8 +121,17 @@ pub fn write_waiting(out: &mut [u8]) -> Returned {
     Returned::from_whole(unsafe { foreign::boardtime_write_waiting(out.as_mut_ptr(), out.len()) })
 }
 
-/// Reads a line, given without its LF, and writes its command. Returns 0, 1, 2
-/// or 10.
+/// `(window SLOT (DATE DATE))`. Returns 0, 2, 10, 11 or 12.
+pub fn write_window(out: &mut [u8], slot: u64, start: &Date, end: &Date) -> Returned {
+    // SAFETY: as in `write_start`; and a reference to a date is valid and
+    // aligned. The output is borrowed mutably, so it overlaps no date.
+    Returned::from_whole(unsafe {
+        foreign::boardtime_write_window(out.as_mut_ptr(), out.len(), slot, start, end)
+    })
+}
+
+/// Reads a line, given without its LF, and writes its command. Returns 0, 1, 2,
+/// 10, 11 or 12.
 pub fn plain(line: &[u8], out: &mut [u8]) -> Returned {
     // SAFETY: the pointers of the slices are not null and each is valid for
     // its length. The output is borrowed mutably, so it does not overlap the

@@ -28,6 +28,11 @@ pub enum Refusal {
     TagsSpent = 9,
     /// The output is shorter than 256 bytes.
     ShortOutput = 10,
+    /// A date does not exist or lies outside the years 1900 through 2099, or a
+    /// moment lies outside them and has no date.
+    NoDate = 11,
+    /// A window whose end is not later than its start.
+    NoWindow = 12,
 }
 
 impl Refusal {
@@ -60,6 +65,8 @@ pub(crate) fn result(number: u8) -> Result<(), Refusal> {
         8 => Err(Refusal::TooLate),
         9 => Err(Refusal::TagsSpent),
         10 => Err(Refusal::ShortOutput),
+        11 => Err(Refusal::NoDate),
+        12 => Err(Refusal::NoWindow),
         _ => unreachable!("the library returned {number}, which is no refusal's number"),
     }
 }

@@ -1,7 +1,7 @@
 //! The wrapper's own duties where a line is written: what it hands to the
 //! library and what it hands back. The package `differential` tests the library.
 
-use boardtime::{lines, plain, Command, Keeper, Refusal, Rule, OUTPUT_BYTES};
+use boardtime::{lines, plain, Command, Date, Keeper, Refusal, Rule, OUTPUT_BYTES};
 
 const UNTOUCHED: u8 = 0xA5;
 
@@ -13,8 +13,14 @@ const START: Command = Command::Start {
     upper: 1000,
 };
 
+/// The first second that has a date, and the last one.
+const FIRST: Date = date(1900, 1, 1, [0, 0, 0]);
+const LAST: Date = date(2099, 12, 31, [23, 59, 59]);
+/// No date: 1900 is no leap year.
+const NO_DATE: Date = date(1900, 2, 29, [0, 0, 0]);
+
 /// Every form, with numbers that differ, so that none can stand for another.
-const COMMANDS: [(Command, &str); 8] = [
+const COMMANDS: [(Command, &str); 10] = [
     (START, "(start 3 im 200 (-1000 1000))"),
     (
         Command::Start {
@@ -40,11 +46,23 @@ const COMMANDS: [(Command, &str); 8] = [
     (Command::Drop { peer: 0 }, "(drop 0)"),
     (Command::Read, "(read)"),
     (Command::Waiting, "(waiting)"),
+    (
+        window(
+            7,
+            date(2001, 2, 3, [4, 5, 6]),
+            date(2013, 10, 29, [11, 48, 57]),
+        ),
+        "(window 7 (2001-02-03T04:05:06 2013-10-29T11:48:57))",
+    ),
+    (
+        window(15, FIRST, LAST),
+        "(window 15 (1900-01-01T00:00:00 2099-12-31T23:59:59))",
+    ),
 ];
 
 /// Each has one number that is the first refused, or one that would be accepted
 /// if it were cut short, or edges in the wrong order.
-const REFUSED: [Command; 14] = [
+const REFUSED: [Command; 16] = [
     start(16, 0, 0, 0),
     start(256, 0, 0, 0),
     start(0, 50_001, 0, 0),
@@ -59,6 +77,26 @@ const REFUSED: [Command; 14] = [
     reply(0, 0, 0),
     reply(0, 1, i64::MIN),
     Command::Drop { peer: 16 },
+    // The slot comes before the dates and their order.
+    window(16, NO_DATE, LAST),
+    window(256, LAST, FIRST),
+];
+
+/// Windows with a slot in its range that are refused all the same. That a date
+/// does not exist comes before the order of the two.
+const NO_WINDOWS: [(Command, Refusal); 6] = [
+    (window(0, NO_DATE, LAST), Refusal::NoDate),
+    (window(0, LAST, NO_DATE), Refusal::NoDate),
+    (
+        window(0, date(1899, 12, 31, [23, 59, 59]), LAST),
+        Refusal::NoDate,
+    ),
+    (
+        window(0, FIRST, date(2100, 1, 1, [0, 0, 0])),
+        Refusal::NoDate,
+    ),
+    (window(0, FIRST, FIRST), Refusal::NoWindow),
+    (window(0, LAST, FIRST), Refusal::NoWindow),
 ];
 
 const fn start(board: u64, claim: u64, lower: i64, upper: i64) -> Command {
@@ -77,6 +115,21 @@ const fn reply(peer: u64, tag: u64, leading: i64) -> Command {
         tag,
         trailing: 0,
         leading,
+    }
+}
+
+const fn window(slot: u64, start: Date, end: Date) -> Command {
+    Command::Window { slot, start, end }
+}
+
+const fn date(year: u64, month: u64, day: u64, [hour, minute, second]: [u64; 3]) -> Date {
+    Date {
+        year,
+        month,
+        day,
+        hour,
+        minute,
+        second,
     }
 }
 
@@ -109,6 +162,15 @@ fn numbers_outside_their_ranges_are_refused() {
 }
 
 #[test]
+fn dates_that_make_no_window_are_refused() {
+    let mut out = [UNTOUCHED; OUTPUT_BYTES];
+    for (command, refusal) in NO_WINDOWS {
+        assert_eq!(command.write(&mut out), Err(refusal), "{command:?}");
+        assert_eq!(out, [UNTOUCHED; OUTPUT_BYTES]);
+    }
+}
+
+#[test]
 fn rules_without_a_name_are_refused() {
     let mut out = [UNTOUCHED; OUTPUT_BYTES];
     for rule in [2, 255, 256, 257, 1 << 32, u64::MAX] {
@@ -127,6 +189,22 @@ fn lines_that_cannot_be_read_are_refused() {
         ("(read)\n", Refusal::NoShape),
         ("(pass 86400001)", Refusal::OutsideRange),
         ("(start 3 im 200 (1000 -1000))", Refusal::OutsideRange),
+        (
+            "(window 0 (2000-1-01T00:00:00 2000-01-02T00:00:00))",
+            Refusal::NoShape,
+        ),
+        (
+            "(window 16 (1900-02-29T00:00:00 1900-01-01T00:00:00))",
+            Refusal::OutsideRange,
+        ),
+        (
+            "(window 15 (1900-02-29T00:00:00 1900-01-01T00:00:00))",
+            Refusal::NoDate,
+        ),
+        (
+            "(window 15 (2000-02-29T00:00:00 2000-02-29T00:00:00))",
+            Refusal::NoWindow,
+        ),
     ] {
         assert_eq!(plain(line.as_bytes(), &mut out), Err(refusal), "{line}");
         assert_eq!(out, [UNTOUCHED; OUTPUT_BYTES]);
@@ -139,7 +217,8 @@ fn short_outputs_are_refused() {
     for length in [0, 1, OUTPUT_BYTES - 1] {
         let mut out = vec![UNTOUCHED; length];
         let accepted = COMMANDS.map(|(command, _)| command);
-        for command in accepted.iter().chain(&REFUSED) {
+        let no_windows = NO_WINDOWS.map(|(command, _)| command);
+        for command in accepted.iter().chain(&REFUSED).chain(&no_windows) {
             assert_eq!(command.write(&mut out), Err(Refusal::ShortOutput));
         }
         for line in ["(read)", "(pass 12x7)", "(pass 86400001)"] {
@@ -164,6 +243,7 @@ fn written_lines_are_answered() {
             Command::Read,
             "(time (9997000 10001000) (9999000 2000) 0 0)\n",
         ),
+        (window(7, FIRST, LAST), "(open 7)\n"),
     ] {
         let mut line = [0; OUTPUT_BYTES];
         let mut out = [0; OUTPUT_BYTES];

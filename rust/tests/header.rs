@@ -5,7 +5,7 @@ use boardtime::{image, Refusal, Rule, IMAGE_BYTES, LINE_BYTES, OUTPUT_BYTES};
 
 const HEADER: &str = include_str!("../../include/boardtime.h");
 
-const REFUSALS: [(&str, Refusal); 10] = [
+const REFUSALS: [(&str, Refusal); 12] = [
     ("NO_SHAPE", Refusal::NoShape),
     ("OUTSIDE_RANGE", Refusal::OutsideRange),
     ("WRONG_ORDER", Refusal::WrongOrder),
@@ -16,6 +16,8 @@ const REFUSALS: [(&str, Refusal); 10] = [
     ("TOO_LATE", Refusal::TooLate),
     ("TAGS_SPENT", Refusal::TagsSpent),
     ("SHORT_OUTPUT", Refusal::ShortOutput),
+    ("NO_DATE", Refusal::NoDate),
+    ("NO_WINDOW", Refusal::NoWindow),
 ];
 
 /// The name, without its prefix, and the value of a line that defines a number.
@@ -43,7 +45,7 @@ fn constants_are_those_of_the_header() {
 /// Each declaration of the header beside the one that Rust calls by. A type
 /// that is too narrow in one of them need not show in any call: what is in the
 /// rest of a register is left open.
-const DECLARATIONS: [(&str, &str); 11] = [
+const DECLARATIONS: [(&str, &str); 14] = [
     (
         "uint8_t boardtime_fresh(uint8_t *image, size_t image_length);",
         "pub fn boardtime_fresh(image: *mut u8, image_length: usize) -> u8;",
@@ -91,21 +93,39 @@ const DECLARATIONS: [(&str, &str); 11] = [
         "pub fn boardtime_write_waiting(out: *mut u8, out_length: usize) -> u32;",
     ),
     (
+        "uint32_t boardtime_write_window(uint8_t *out, size_t out_length, uint64_t slot, \
+         const struct boardtime_date *start, const struct boardtime_date *end);",
+        "pub fn boardtime_write_window( out: *mut u8, out_length: usize, slot: u64, \
+         start: *const Date, end: *const Date, ) -> u32;",
+    ),
+    (
         "uint32_t boardtime_plain(const uint8_t *line, size_t line_length, \
          uint8_t *out, size_t out_length);",
         "pub fn boardtime_plain( line: *const u8, line_length: usize, \
          out: *mut u8, out_length: usize, ) -> u32;",
     ),
+    (
+        "uint8_t boardtime_moment_of(const struct boardtime_date *date, int64_t *moment);",
+        "pub fn boardtime_moment_of(date: *const Date, moment: *mut i64) -> u8;",
+    ),
+    (
+        "uint8_t boardtime_date_of(int64_t moment, struct boardtime_date *date);",
+        "pub fn boardtime_date_of(moment: i64, date: *mut Date) -> u8;",
+    ),
 ];
+
+/// A text without its line ends, so that it does not matter where they are.
+fn words(text: &str) -> String {
+    text.split_whitespace().collect::<Vec<_>>().join(" ")
+}
 
 #[test]
 fn declarations_are_those_of_the_header() {
-    // Wherever the lines are broken.
-    let words = |text: &str| text.split_whitespace().collect::<Vec<_>>().join(" ");
     let header = words(HEADER);
     let foreign = words(concat!(
         include_str!("../src/image.rs"),
-        include_str!("../src/lines.rs")
+        include_str!("../src/lines.rs"),
+        include_str!("../src/dates.rs")
     ));
     for (in_c, in_rust) in DECLARATIONS {
         assert!(header.contains(in_c), "the header has no {in_c}");
@@ -114,4 +134,17 @@ fn declarations_are_those_of_the_header() {
     // No declaration is left out above.
     assert_eq!(header.matches("_t boardtime_").count(), DECLARATIONS.len());
     assert_eq!(foreign.matches("fn boardtime_").count(), DECLARATIONS.len());
+}
+
+/// The only type that C and Rust have to lay out alike.
+#[test]
+fn the_date_is_that_of_the_header() {
+    let header = words(HEADER);
+    let in_c = "struct boardtime_date { uint64_t year, month, day, hour, minute, second; };";
+    assert!(header.contains(in_c), "the header has no {in_c}");
+    assert_eq!(header.matches("{ uint").count(), 1);
+    let in_rust = "#[repr(C)] pub struct Date { pub year: u64, pub month: u64, pub day: u64, \
+                   pub hour: u64, pub minute: u64, pub second: u64, }";
+    let date = words(include_str!("../src/date.rs"));
+    assert!(date.contains(in_rust), "the crate has no {in_rust}");
 }

@@ -160,6 +160,14 @@ fn results_have_the_numbers_of_their_refusals() {
         ("(start 3 im 200 (-1000 1000))", Refusal::WrongOrder),
         ("(request 3)", Refusal::OwnBoard),
         ("(drop 4)", Refusal::NotWaiting),
+        (
+            "(window 0 (2001-02-29T00:00:00 2002-01-01T00:00:00))",
+            Refusal::NoDate,
+        ),
+        (
+            "(window 0 (2002-01-01T00:00:00 2001-01-01T00:00:00))",
+            Refusal::NoWindow,
+        ),
     ] {
         let answer = keeper.answer(line.as_bytes(), &mut out);
         assert_eq!(answer.result(), Err(refusal));
@@ -168,6 +176,43 @@ fn results_have_the_numbers_of_their_refusals() {
             answer.bytes,
             format!("(no {})\n", refusal.number()).as_bytes()
         );
+    }
+}
+
+/// The keeper's edges are 1000 ns before and after 2000-01-01T00:00:00.
+#[test]
+fn windows_leave_the_keeper_as_it_was() {
+    let mut keeper = started();
+    let before = keeper.clone();
+    for (line, number, answer) in [
+        (
+            "(window 0 (1999-12-31T23:59:59 2000-01-01T00:00:01))",
+            0,
+            "(open 0)\n",
+        ),
+        (
+            "(window 15 (2000-01-01T00:00:01 2000-01-01T00:00:02))",
+            0,
+            "(shut 15)\n",
+        ),
+        (
+            "(window 9 (2000-01-01T00:00:00 2000-01-01T00:00:01))",
+            0,
+            "(unsure 9)\n",
+        ),
+        (
+            "(window 0 (1900-02-29T00:00:00 2000-01-01T00:00:00))",
+            11,
+            "(no 11)\n",
+        ),
+        (
+            "(window 0 (2000-01-01T00:00:00 2000-01-01T00:00:00))",
+            12,
+            "(no 12)\n",
+        ),
+    ] {
+        assert_eq!(answered(&mut keeper, line), (number, answer.into()));
+        assert_eq!(keeper, before);
     }
 }
 

@@ -15,11 +15,13 @@ use Rattle.numeral.proofs.Digits.{digits-most}
 use Rattle.moment.specs.declared.Interval.{Interval}
 use Rattle.rules.specs.declared.Finding.{Finding}
 use Rattle.rules.specs.declared.Finding.the-variants.{Conflict, Taken, Kept}
+use Rattle.rules.specs.declared.Window.{Window}
+use Rattle.rules.specs.declared.Window.the-variants.{Open, Shut, Unsure}
 use Rattle.writing.specs.Puts.{Puts, pair}
 use Rattle.writing.proofs.PutsLaws.{_then_}
 use Rattle.keeper.specs.declared.Answer.{Answer}
 use Rattle.keeper.specs.declared.Keeper.{Keeper}
-use Rattle.answers.specs.Answers.{edgesLine, findingWord, IsLine}
+use Rattle.answers.specs.Answers.{edgesLine, findingWord, windowWord, IsLine}
 use Rattle.answers.specs.Writing.{lineEnd, PutShort, LinePut}
 
 -- by the case that the answer is
@@ -62,6 +64,11 @@ pub word-most : (f : Finding) → length (findingWord f) ≤ 10
 word-most Conflict = omega arith
 word-most Taken = omega arith
 word-most Kept = omega arith
+
+pub window-most : (w : Window) → length (windowWord w) ≤ 10
+window-most Open = omega arith
+window-most Shut = omega arith
+window-most Unsure = omega arith
 
 -- what is put of a line that ends in edges, and of the time line, behind its word
 pub edges-parts : (n : ℕ) (edges : Interval) → digits n ++ bytes " (" ++ signedDigits (edges .lower) ++ bytes " " ++ signedDigits (edges .upper) ++ bytes "))\n" ≡ edgesLine [] n edges ++ lineEnd

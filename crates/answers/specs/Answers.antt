@@ -1,4 +1,4 @@
--- The line of each answer: document 01, 'The calls' and 'Causes of a refusal'.
+-- The line of each answer: document 01, 'The calls' and 'Causes of a refusal', and document 02, order 3.
 use mathlib.Core.Path.{_≡_}
 use mathlib.Core.Bool.{true, false, _&&_}
 use mathlib.Core.List.{List, [], _∷_, _++_}
@@ -12,6 +12,8 @@ use Rattle.numeral.specs.Digits.{digits}
 use Rattle.moment.specs.declared.Interval.{Interval}
 use Rattle.rules.specs.declared.Finding.{Finding}
 use Rattle.rules.specs.declared.Finding.the-variants.{Conflict, Taken, Kept}
+use Rattle.rules.specs.declared.Window.{Window}
+use Rattle.rules.specs.declared.Window.the-variants.{Open, Shut, Unsure}
 use Rattle.writing.specs.Puts.{pair}
 use Rattle.keeper.specs.declared.Keeper.{Keeper}
 use Rattle.keeper.specs.declared.Answer.{Answer}
@@ -26,6 +28,12 @@ abbrev pub findingWord : Finding → List ℕ
 findingWord Conflict = bytes "(conflict "
 findingWord Taken = bytes "(taken "
 findingWord Kept = bytes "(kept "
+
+-- '`(open SLOT)` .., `(shut SLOT)` .., and otherwise `(unsure SLOT)`': the bracket, the word and a space
+abbrev pub windowWord : Window → List ℕ
+windowWord Open = bytes "(open "
+windowWord Shut = bytes "(shut "
+windowWord Unsure = bytes "(unsure "
 
 -- The line of an answer, without its LF. The line of `Waiting` is `waitingLine`, in an order left free.
 unfoldable pub lineOf : Answer → List ℕ
@@ -45,6 +53,7 @@ lineOf (A.Time edges centre error conflicts waiting) =
     ++ digits waiting
     ++ bytes ")"
 lineOf A.Waiting = []
+lineOf (A.Heater slot window) = windowWord window ++ digits slot ++ bytes ")"
 lineOf (A.Refused n) = bytes "(no " ++ digits n ++ bytes ")"
 
 -- '(waiting (PEER TAG) ...)' for the peers in this order
@@ -74,4 +83,5 @@ IsLine (A.Replied peer verdict) k s = s ≡ lineOf (A.Replied peer verdict)
 IsLine (A.Dropped peer) k s = s ≡ lineOf (A.Dropped peer)
 IsLine (A.Time edges centre error conflicts waiting) k s = s ≡ lineOf (A.Time edges centre error conflicts waiting)
 IsLine A.Waiting k s = (order : List ℕ) × EachOnce (k .waiting) order × (s ≡ waitingLine (k .tags) order)
+IsLine (A.Heater slot window) k s = s ≡ lineOf (A.Heater slot window)
 IsLine (A.Refused n) k s = s ≡ lineOf (A.Refused n)

@@ -1,6 +1,7 @@
 // Commands written back, for who sends lines from C or Rust: a call for each form, and one that writes the plain spelling of a line. Numbers have
 // 64 bits, so that none is cut short on the way in. C can't pass an enum, so a rule is a number: 0 for im, 1 for mm, as in an image. It is an
 // archive of its own: in that of a board the reader would be called in two places, and each line would cost the board more.
+use calendar::wide::date_from;
 use form_lines::write_drop;
 use form_lines::write_pass;
 use form_lines::write_read;
@@ -8,12 +9,14 @@ use form_lines::write_reply;
 use form_lines::write_request;
 use form_lines::write_start_with_rule_number;
 use form_lines::write_waiting;
+use form_lines::write_window;
 use moment::Interval;
 use reader::read_command;
 use writer::write_reading;
 use writing::returned;
 ghost use Rattle.moment.specs.Intervals.{interval};
-ghost use Rattle.command.specs.Forms.{start, pass, request, reply, drop, read, waiting};
+ghost use Rattle.calendar.specs.Conversion.{dateIn};
+ghost use Rattle.command.specs.Forms.{start, pass, request, reply, drop, read, waiting, window};
 ghost use Rattle.reader.specs.Reading.{readingOf};
 ghost use Rattle.form_lines.specs.Written.{writtenForm, writtenByRule};
 ghost use Rattle.writer.specs.Written.{writtenReading};
@@ -90,6 +93,22 @@ pub extern "C" fn boardtime_write_waiting(out: &mut [u8]) -> u32
     ensures { λ r. ⌜ Returns (writtenForm waiting (now (out .entry))) r (now (out .exit)) ⌝ }
 {
     let written = write_waiting(out);
+    returned(written.number, written.length)
+}
+
+// A date is six numbers: year, month, day, hour, minute, second.
+#[no_mangle]
+pub extern "C" fn boardtime_write_window(
+    out: &mut [u8],
+    slot: u64,
+    start: &[u64; 6],
+    end: &[u64; 6],
+) -> u32
+    ensures { λ r. ⌜ Returns (writtenForm (window slot (dateIn (now (start .entry))) (dateIn (now (end .entry)))) (now (out .entry))) r (now (out .exit)) ⌝ }
+{
+    let first = date_from(start[0], start[1], start[2], start[3], start[4], start[5]);
+    let last = date_from(end[0], end[1], end[2], end[3], end[4], end[5]);
+    let written = write_window(out, slot, first, last);
     returned(written.number, written.length)
 }
 

@@ -2,3 +2,4 @@
 pub mod LimitLaws
 pub mod CauseLaws
 pub mod SpellingLaws
+pub mod SpanLaws

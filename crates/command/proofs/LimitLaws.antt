@@ -16,7 +16,7 @@ use Rattle.moment.specs.declared.Interval.{Interval}
 use Rattle.moment.proofs.Integers.{ints, below}
 use Rattle.moment.proofs.IntervalLaws.{range-before, range-after}
 use Rattle.command.specs.Forms.{Form}
-use Rattle.command.specs.Limits.{boardWithin, claimWithin, ticksWithin, tagWithin, keeps, commandOf, limited}
+use Rattle.command.specs.Limits.{boardWithin, claimWithin, ticksWithin, tagWithin, slotWithin, keeps, commandOf, limited}
 use Rattle.command.specs.Edges.{edgeValue, integerOf}
 use Rattle.command.specs.declared.Reading.the-variants.{Accepted, OutsideLimits}
 use Rattle.command.specs.declared.accept.Edge.{Edge}
@@ -25,6 +25,10 @@ use Rattle.moment.specs.declared.intervals.Bounds.the-variants as B
 use Rattle.moment.specs.Intervals.{edgesWithin, boundsOf}
 
 -- ---- one number
+
+pub slot-bound : (n : ℕ) → slotWithin n ≡ true → n ≤ 15
+unfolding slotWithin
+slot-bound n e = leb-true n 15 e
 
 pub board-bound : (n : ℕ) → boardWithin n ≡ true → n ≤ 15
 unfolding boardWithin

@@ -8,7 +8,7 @@ use native.Mathlib.Omega.{arith}
 use borrow.Author.Tests.{leb-true}
 use lib.Dec.{leb}
 use lib.IntN.{ℤ, pos, negsuc, natAbs}
-use lib.Signed.{leZ}
+use lib.Signed.{leZ, ltZ}
 use lib.ListN.{length, length-append}
 use Rattle.bits.specs.Choice.{choose}
 use Rattle.bits.proofs.Tests.{both}
@@ -21,13 +21,19 @@ use Rattle.moment.specs.Moment.{inRange}
 use Rattle.moment.specs.Intervals.{edgesWithin}
 use Rattle.moment.proofs.Integers.{ints}
 use Rattle.moment.proofs.IntervalLaws.{range-read}
+use Rattle.calendar.specs.declared.Date.{Date}
+use Rattle.calendar.specs.Calendar.{exists}
+use Rattle.calendar.specs.Conversion.{momentOf}
+use Rattle.dates.specs.DateText.{Fits}
+use Rattle.dates.proofs.FitLaws.{exists-fits}
+use Rattle.dates.proofs.PlacedLaws.{date-length}
 use Rattle.rules.specs.declared.Rule.{Rule}
 use Rattle.rules.specs.declared.Rule.the-variants.{Im, Mm}
 use Rattle.command.specs.Forms as F
-use Rattle.command.specs.Forms.{Form, Part, text, rule, number, edge, IsPart, Spells, IsSpelling, parts}
+use Rattle.command.specs.Forms.{Form, Part, text, rule, number, edge, date, IsPart, Spells, IsSpelling, parts}
 use Rattle.command.specs.Spelling.{plainPart, plainParts, plainSpelling}
-use Rattle.command.specs.Limits.{keeps, boardWithin, claimWithin, ticksWithin, tagWithin}
-use Rattle.command.specs.Causes.{first, formCauses}
+use Rattle.command.specs.Limits.{keeps, boardWithin, claimWithin, ticksWithin, tagWithin, slotWithin}
+use Rattle.command.specs.Causes.{Cause, cause, first, formCauses, dateCauses}
 
 -- ---- a spelling is the plain one
 
@@ -36,6 +42,7 @@ part-plain (text t) s h = h
 part-plain (rule r) s h = h
 part-plain (number n) s h = h .spelling
 part-plain (edge z) s h = signed-spelling z s h
+part-plain (date d) s h = h .spelling
 
 parts-plain : (ps : List Part) (line : List ℕ) → Spells ps line → line ≡ plainParts ps
 unfolding plainParts
@@ -49,12 +56,13 @@ spelling-plain f line h = parts-plain (parts f) line h
 
 -- ---- the plain spelling is one, where every number has a numeral
 
--- the number of a part has at most 19 digits
+-- the number of a part has at most 19 digits, and the fields of a date fit their places
 abbrev HasNumeral : Part → Type 0
 HasNumeral (text t) = Unit {0}
 HasNumeral (rule r) = Unit {0}
 HasNumeral (number n) = n < 10 ^ 19
 HasNumeral (edge z) = natAbs z < 10 ^ 19
+HasNumeral (date d) = Fits d
 
 abbrev HaveNumerals : List Part → Type 0
 HaveNumerals [] = Unit {0}
@@ -65,6 +73,7 @@ part-is (text t) h = refl
 part-is (rule r) h = refl
 part-is (number n) h = digits-numeral n h
 part-is (edge z) h = signed-numeral z h
+part-is (date d) h = record { fits = h; spelling = refl }
 
 parts-are : (ps : List Part) → HaveNumerals ps → Spells ps (plainParts ps)
 unfolding plainParts
@@ -92,6 +101,7 @@ Small (F.reply peer tag edges) = (peer < 10 ^ 2) × (tag < 10 ^ 8) × (natAbs (e
 Small (F.drop peer) = peer < 10 ^ 2
 Small F.read = Unit {0}
 Small F.waiting = Unit {0}
+Small (F.window slot begins ends) = (slot < 10 ^ 2) × Fits begins × Fits ends
 
 board-small : (n : ℕ) → boardWithin n ≡ true → n < 10 ^ 2
 unfolding boardWithin
@@ -105,26 +115,54 @@ ticks-small : (n : ℕ) → ticksWithin n ≡ true → n < 10 ^ 8
 unfolding ticksWithin
 ticks-small n h = omega (arith, leb-true n 86400000 h)
 
+slot-small : (n : ℕ) → slotWithin n ≡ true → n < 10 ^ 2
+unfolding slotWithin
+slot-small n h = omega (arith, leb-true n 15 h)
+
 tag-small : (n : ℕ) → tagWithin n ≡ true → n < 10 ^ 8
 unfolding tagWithin
 tag-small n h = omega (arith, leb-true n 16777215 (both (leb 1 n) (leb n 16777215) h .1))
 
-kept-small : (f : Form) → keeps f ≡ true → Small f
-kept-small (F.start board r claim edges) h =
-    let (front, e) = both (boardWithin board && claimWithin claim) (edgesWithin edges) h in
+-- a form that no cause of its own refuses keeps its limits; its dates exist, and the second is later
+pub uncaused-keeps : (f : Form) → first (formCauses f) ≡ 0 → keeps f ≡ true
+unfolding first
+uncaused-keeps f h = go (keeps f) (dateCauses f) h
+  where
+    go : (t : Bool) (rest : List Cause) → first (cause 2 (not t) ∷ rest) ≡ 0 → t ≡ true
+    go true rest e = refl
+    go false rest e = absurd (omega (arith, e))
+
+pub uncaused-dates : (slot : ℕ) (begins ends : Date) → first (formCauses (F.window slot begins ends)) ≡ 0
+    → (exists begins ≡ true) × (exists ends ≡ true) × (ltZ (momentOf begins) (momentOf ends) ≡ true)
+unfolding first
+uncaused-dates slot begins ends h = go (slotWithin slot) (exists begins) (exists ends) (ltZ (momentOf begins) (momentOf ends)) h
+  where
+    go : (s b e l : Bool) → first (cause 2 (not s) ∷ cause 11 (not (b && e)) ∷ cause 12 (not l) ∷ []) ≡ 0 → (b ≡ true) × (e ≡ true) × (l ≡ true)
+    go false b e l h = absurd (omega (arith, h))
+    go true false e l h = absurd (omega (arith, h))
+    go true true false l h = absurd (omega (arith, h))
+    go true true true false h = absurd (omega (arith, h))
+    go true true true true h = (refl, refl, refl)
+
+uncaused-small : (f : Form) → first (formCauses f) ≡ 0 → Small f
+uncaused-small (F.start board r claim edges) h =
+    let (front, e) = both (boardWithin board && claimWithin claim) (edgesWithin edges) (uncaused-keeps (F.start board r claim edges) h) in
     let (b, c) = both (boardWithin board) (claimWithin claim) front in
     let (low, high) = edges-numerals edges e in
     (board-small board b, claim-small claim c, low, high)
-kept-small (F.pass ticks) h = ticks-small ticks h
-kept-small (F.request peer) h = board-small peer h
-kept-small (F.reply peer tag edges) h =
-    let (front, e) = both (boardWithin peer && tagWithin tag) (edgesWithin edges) h in
+uncaused-small (F.pass ticks) h = ticks-small ticks (uncaused-keeps (F.pass ticks) h)
+uncaused-small (F.request peer) h = board-small peer (uncaused-keeps (F.request peer) h)
+uncaused-small (F.reply peer tag edges) h =
+    let (front, e) = both (boardWithin peer && tagWithin tag) (edgesWithin edges) (uncaused-keeps (F.reply peer tag edges) h) in
     let (p, t) = both (boardWithin peer) (tagWithin tag) front in
     let (low, high) = edges-numerals edges e in
     (board-small peer p, tag-small tag t, low, high)
-kept-small (F.drop peer) h = board-small peer h
-kept-small F.read h = tt
-kept-small F.waiting h = tt
+uncaused-small (F.drop peer) h = board-small peer (uncaused-keeps (F.drop peer) h)
+uncaused-small F.read h = tt
+uncaused-small F.waiting h = tt
+uncaused-small (F.window slot begins ends) h =
+    let (b, e, later) = uncaused-dates slot begins ends h in
+    (slot-small slot (uncaused-keeps (F.window slot begins ends) h), exists-fits begins b, exists-fits ends e)
 
 small-numerals : (f : Form) → Small f → HaveNumerals (parts f)
 small-numerals (F.start board r claim edges) (b, c, low, high) =
@@ -136,23 +174,11 @@ small-numerals (F.reply peer tag edges) (p, t, low, high) =
 small-numerals (F.drop peer) h = (tt, (omega (arith, h), (tt, tt)))
 small-numerals F.read h = (tt, tt)
 small-numerals F.waiting h = (tt, tt)
-
--- a form that no cause of its own refuses keeps its limits, and one that keeps them is refused by none
-pub uncaused-keeps : (f : Form) → first (formCauses f) ≡ 0 → keeps f ≡ true
-unfolding first
-uncaused-keeps f h = go (keeps f) h
-  where
-    go : (t : Bool) → _≡_ {A = ℕ} (choose (not t) (λ _. 2) (λ _. 0)) 0 → t ≡ true
-    go true e = refl
-    go false e = absurd (omega (arith, e))
-
-pub kept-uncaused : (f : Form) → keeps f ≡ true → first (formCauses f) ≡ 0
-unfolding first
-kept-uncaused f h = rw h
+small-numerals (F.window slot begins ends) (s, b, e) = (tt, (omega (arith, s), (tt, (b, (tt, (e, (tt, tt)))))))
 
 pub plain-spells : (f : Form) → first (formCauses f) ≡ 0 → IsSpelling f (plainSpelling f)
 unfolding plainSpelling
-plain-spells f h = parts-are (parts f) (small-numerals f (kept-small f (uncaused-keeps f h)))
+plain-spells f h = parts-are (parts f) (small-numerals f (uncaused-small f h))
 
 -- ---- and it is short
 
@@ -185,9 +211,10 @@ small-most (F.reply peer tag edges) (p, t, low, high) =
 small-most (F.drop peer) h = omega (arith, digits-most 1 peer h)
 small-most F.read h = omega arith
 small-most F.waiting h = omega arith
+small-most (F.window slot begins ends) (s, b, e) = omega (arith, digits-most 1 slot s, date-length begins, date-length ends)
 
 -- no form that no cause of its own refuses has more than 63 bytes: a start with a board of two digits, a claim of five, and two negative edges of
 -- nineteen digits has as many
 pub plain-most : (f : Form) → first (formCauses f) ≡ 0 → length (plainSpelling f) ≤ 63
 unfolding plainSpelling
-plain-most f h = omega (arith, parts-length (parts f), small-most f (kept-small f (uncaused-keeps f h)))
+plain-most f h = omega (arith, parts-length (parts f), small-most f (uncaused-small f h))

@@ -4,3 +4,4 @@ pub mod Spelling
 pub mod Limits
 pub mod Edges
 pub mod Causes
+pub mod Windows

@@ -28,7 +28,11 @@ ticksWithin ticks = leb ticks 86400000
 unfoldable pub tagWithin : ℕ → Bool
 tagWithin tag = leb 1 tag && leb tag 16777215
 
--- The form keeps every limit.
+-- 'names a slot 0..15'
+unfoldable pub slotWithin : ℕ → Bool
+slotWithin slot = leb slot 15
+
+-- The form keeps every limit of its numerals and edges. A date has none: whether it exists is another cause.
 abbrev pub keeps : Form → Bool
 keeps (F.start board rule claim edges) = boardWithin board && claimWithin claim && edgesWithin edges
 keeps (F.pass ticks) = ticksWithin ticks
@@ -37,6 +41,7 @@ keeps (F.reply peer tag edges) = boardWithin peer && tagWithin tag && edgesWithi
 keeps (F.drop peer) = boardWithin peer
 keeps F.read = true
 keeps F.waiting = true
+keeps (F.window slot begins ends) = slotWithin slot
 
 -- The command of a form, and the form of a command: the same word and the same numbers.
 abbrev pub commandOf : Form → Command
@@ -47,6 +52,7 @@ commandOf (F.reply peer tag edges) = C.Reply peer tag edges
 commandOf (F.drop peer) = C.Drop peer
 commandOf F.read = C.Read
 commandOf F.waiting = C.Waiting
+commandOf (F.window slot begins ends) = C.Window slot begins ends
 
 abbrev pub formOf : Command → Form
 formOf (C.Start board rule claim edges) = F.start board rule claim edges
@@ -56,6 +62,7 @@ formOf (C.Reply peer tag edges) = F.reply peer tag edges
 formOf (C.Drop peer) = F.drop peer
 formOf C.Read = F.read
 formOf C.Waiting = F.waiting
+formOf (C.Window slot start end) = F.window slot start end
 
 -- 'a numeral outside its range, or a first edge above the second' is refusal 2.
 unfoldable pub limited : Form → Reading

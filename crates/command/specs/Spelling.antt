@@ -3,15 +3,17 @@ use mathlib.Core.List.{List, [], _∷_, _++_}
 use Prim.Native.Nat.{ℕ}
 use Rattle.text.specs.Words.{bytes}
 use Rattle.numeral.specs.Digits.{digits, signedDigits}
-use Rattle.command.specs.Forms.{Form, Part, text, rule, number, edge, ruleText, parts}
+use Rattle.dates.specs.DateText.{dateText}
+use Rattle.command.specs.Forms.{Form, Part, text, rule, number, edge, date, ruleText, parts}
 
 -- The plain spelling of a part: a text and a rule as they stand, a number by its digits, an edge by its digits with '-' before them if it is
--- negative.
+-- negative, a date by its fields at full width.
 abbrev pub plainPart : Part → List ℕ
 plainPart (text t) = bytes t
 plainPart (rule r) = bytes (ruleText r)
 plainPart (number n) = digits n
 plainPart (edge z) = signedDigits z
+plainPart (date d) = dateText d
 
 -- Parts one after the other, and nothing else.
 unfoldable pub plainParts : List Part → List ℕ

@@ -3,14 +3,16 @@ use crate::Command;
 use crate::Reading;
 use crate::limits::board_within;
 use crate::limits::claim_within;
+use crate::limits::slot_within;
 use crate::limits::tag_within;
 use crate::limits::ticks_within;
+use calendar::Date;
 use moment::Interval;
 use moment::intervals::Bounds;
 use moment::intervals::edges_within;
 use rules::Rule;
 ghost use mathlib.Core.Path.{_≡_};
-ghost use Rattle.command.specs.Forms.{start, pass, request, reply, drop};
+ghost use Rattle.command.specs.Forms.{start, pass, request, reply, drop, window};
 ghost use Rattle.command.specs.Limits.{limited};
 ghost use Rattle.command.specs.Edges.{edgeValue, integerOf};
 ghost use Rattle.moment.specs.Intervals.{interval, boundsOf};
@@ -128,4 +130,18 @@ pub fn accept_drop(peer: u64) -> Reading
         return Reading::OutsideLimits;
     }
     Reading::Accepted(Command::Drop { peer: peer as u8 })
+}
+
+// The dates are taken as they were read, whether they exist or not.
+pub fn accept_window(slot: u64, start: Date, end: Date) -> Reading
+    ensures { λ r. ⌜ r ≡ limited (window slot start end) ⌝ }
+{
+    if !slot_within(slot) {
+        return Reading::OutsideLimits;
+    }
+    Reading::Accepted(Command::Window {
+        slot: slot as u8,
+        start,
+        end,
+    })
 }

@@ -1,11 +1,14 @@
-// Commands and their limits: document 01, 'Line forms'.
+// Commands and their limits: document 01, 'Line forms', and document 02, order 3.
+use calendar::Date;
 use moment::Interval;
 use rules::Rule;
 
 pub mod accept;
 pub mod limits;
+pub mod windows;
 
-// A command. The reader answers only those whose numbers are within their limits. Of a reply's edges the lower is TRAILING and the upper LEADING.
+// A command. The reader answers only those whose numbers are within their limits; whether a window's dates exist is asked where it is applied or
+// written. Of a reply's edges the lower is TRAILING and the upper LEADING.
 pub enum Command {
     Start {
         board: u8,
@@ -29,6 +32,11 @@ pub enum Command {
     },
     Read,
     Waiting,
+    Window {
+        slot: u8,
+        start: Date,
+        end: Date,
+    },
 }
 
 // What a line is: a command, no command shape (refusal 1), or a shape with a number outside its limits (refusal 2).

@@ -3,7 +3,7 @@ use moment::Interval;
 use moment::intervals::edges_within;
 ghost use mathlib.Core.Path.{_≡_};
 ghost use mathlib.Core.Bool.{_&&_};
-ghost use Rattle.command.specs.Limits.{boardWithin, claimWithin, ticksWithin, tagWithin};
+ghost use Rattle.command.specs.Limits.{boardWithin, claimWithin, ticksWithin, tagWithin, slotWithin};
 ghost use Rattle.moment.specs.Intervals.{edgesWithin};
 
 pub const LAST_BOARD: u64 = 15;
@@ -13,6 +13,8 @@ pub const MOST_CLAIM: u64 = 50000;
 pub const MOST_TICKS: u64 = 86400000;
 
 pub const MOST_TAG: u64 = 16777215;
+
+pub const LAST_SLOT: u64 = 15;
 
 // A board, or a peer.
 pub fn board_within(board: u64) -> bool
@@ -38,6 +40,13 @@ pub fn tag_within(tag: u64) -> bool
     ensures { λ r. ⌜ r ≡ tagWithin tag ⌝ }
 {
     1 <= tag && tag <= MOST_TAG
+}
+
+// A heater's slot.
+pub fn slot_within(slot: u64) -> bool
+    ensures { λ r. ⌜ r ≡ slotWithin slot ⌝ }
+{
+    slot <= LAST_SLOT
 }
 
 // The numbers of a start.

@@ -6,7 +6,7 @@ ghost use Rattle.text.specs.Output.{Put};
 
 // Two digits at a place; it gives the place after them. One word holds both, the tens in its lower byte, which is stored first:
 // 256 * two - 2559 * tens is tens + 256 * ones, and 12336 is '0' in both bytes.
-pub(crate) fn put_two(part: &mut [u8], at: usize, two: u32) -> usize
+pub fn put_two(part: &mut [u8], at: usize, two: u32) -> usize
     requires { ⌜ two < 100 ⌝ }
     requires { ⌜ at + 2 ≤ length (now part) ⌝ }
     ensures { λ r. ⌜ Put (now (part .entry)) at (lastDigits 2 two) (now (part .exit)) r ⌝ }
@@ -18,7 +18,7 @@ pub(crate) fn put_two(part: &mut [u8], at: usize, two: u32) -> usize
 }
 
 // Four digits at a place.
-pub(crate) fn put_four(part: &mut [u8], at: usize, four: u32) -> usize
+pub fn put_four(part: &mut [u8], at: usize, four: u32) -> usize
     requires { ⌜ four < 10000 ⌝ }
     requires { ⌜ at + 4 ≤ length (now part) ⌝ }
     ensures { λ r. ⌜ Put (now (part .entry)) at (lastDigits 4 four) (now (part .exit)) r ⌝ }

@@ -147,9 +147,19 @@ length-most causes line out short =
 writes-bounded : (causes : List Cause) (line out : List ℕ) → small causes ≡ true → (first causes ≡ 0 → length line ≤ leastOutput) → Bounded (writes causes line out)
 writes-bounded causes line out few short = (rw (number-refusal causes line out) (refusal-most causes out few), length-most causes line out short)
 
+causes-small : (f : Form) → small (formCauses f) ≡ true
+causes-small (F.start board r claim edges) = refl
+causes-small (F.pass ticks) = refl
+causes-small (F.request peer) = refl
+causes-small (F.reply peer tag edges) = refl
+causes-small (F.drop peer) = refl
+causes-small F.read = refl
+causes-small F.waiting = refl
+causes-small (F.window slot begins ends) = refl
+
 pub form-bounded : (f : Form) (out : List ℕ) → Bounded (writtenForm f out)
 unfolding writtenForm
-form-bounded f out = writes-bounded (formCauses f) (plainSpelling f) out refl (λ e. omega (arith, plain-most f e))
+form-bounded f out = writes-bounded (formCauses f) (plainSpelling f) out (causes-small f) (λ e. omega (arith, plain-most f e))
 
 pub refused-bounded : (n : ℕ) (out : List ℕ) → leb n mostNumber ≡ true → Bounded (refused n out)
 unfolding refused

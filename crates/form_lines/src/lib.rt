@@ -5,6 +5,9 @@ use crate::layouts::OUTSIDE_LIMITS;
 use crate::layouts::write_bare;
 use crate::layouts::write_edged;
 use crate::layouts::write_numbered;
+use crate::windows::put_window;
+use crate::windows::window_refusal;
+use calendar::Date;
 use command::limits::board_within;
 use command::limits::reply_within;
 use command::limits::start_within;
@@ -14,9 +17,10 @@ use rules::Rule;
 use writing::LEAST_OUTPUT;
 
 mod layouts;
+mod windows;
 
 ghost use mathlib.Core.Path.{_≡_};
-ghost use Rattle.command.specs.Forms.{start, pass, request, reply, drop, read, waiting};
+ghost use Rattle.command.specs.Forms.{start, pass, request, reply, drop, read, waiting, window};
 ghost use Rattle.form_lines.specs.Written.{writeResult, writtenForm, refused, writtenByRule};
 
 // The number, and the length of the line at the front of the buffer: 0 unless the number is 0.
@@ -116,4 +120,16 @@ pub fn write_waiting(out: &mut [u8]) -> Written
     ensures { λ r. ⌜ writeResult (r .number) (r .length) (now (out .exit)) ≡ writtenForm waiting (now (out .entry)) ⌝ }
 {
     write_bare(out, b"(waiting)")
+}
+
+// `(window SLOT (START END))`. A window that isn't written leaves the buffer as it was: every test comes before the first byte.
+pub fn write_window(out: &mut [u8], slot: u64, start: Date, end: Date) -> Written
+    ensures { λ r. ⌜ writeResult (r .number) (r .length) (now (out .exit)) ≡ writtenForm (window slot start end) (now (out .entry)) ⌝ }
+{
+    let number = window_refusal(out.len() < LEAST_OUTPUT, slot, start, end);
+    if number != 0 {
+        return Written { number, length: 0 };
+    }
+    let length = put_window(out, slot, start, end);
+    Written { number: 0, length }
 }

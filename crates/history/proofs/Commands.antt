@@ -103,3 +103,4 @@ module _ (k : Keeper) (taken kept dropped : ℕ) (stands : ℤ → Type 0) (held
   command-invariant (C.Drop peer) e = drop-accepted peer e
   command-invariant C.Read e = unchanged
   command-invariant C.Waiting e = unchanged
+  command-invariant (C.Window slot start end) e = unchanged

@@ -52,6 +52,7 @@ command-counted l (C.Reply peer tag reply) =
 command-counted l (C.Drop peer) = neither (λ n. n)
 command-counted l C.Read = neither (λ n. n)
 command-counted l C.Waiting = neither (λ n. n)
+command-counted l (C.Window slot start end) = neither (λ n. n)
 
 pub bracket-iff-counted : BracketIffCounted
 unfolding eventOf logged

@@ -69,6 +69,7 @@ command-starts l (C.Reply peer tag reply) e n =
 command-starts l (C.Drop peer) e n = absurd n
 command-starts l C.Read e n = absurd n
 command-starts l C.Waiting e n = absurd n
+command-starts l (C.Window slot start end) e n = absurd n
 
 line-starts : (l : Log) (i : Input) {m : ℤ} → Begins (eventOf (l .state) i) m → (l .state .started ≡ false) × (logged l i .state .started ≡ true)
 unfolding eventOf logged
@@ -94,6 +95,7 @@ command-started l (C.Reply peer tag reply) on = counted-started (replyVerdict (l
 command-started l (C.Drop peer) on = on
 command-started l C.Read on = on
 command-started l C.Waiting on = on
+command-started l (C.Window slot start end) on = on
 
 line-started : (l : Log) (i : Input) → l .state .started ≡ true → logged l i .state .started ≡ true
 unfolding logged

@@ -35,6 +35,7 @@ commandEvent s (C.Reply peer tag reply) = repliedEvent (replyVerdict s peer repl
 commandEvent s (C.Drop peer) = stayed
 commandEvent s C.Read = stayed
 commandEvent s C.Waiting = stayed
+commandEvent s (C.Window slot start end) = stayed
 
 abbrev pub eventBy : State → Accepting → Event
 eventBy s (accepts c) = commandEvent s c

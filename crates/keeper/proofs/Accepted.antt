@@ -96,6 +96,7 @@ module _ (k : Keeper) (sized : Sized k) where
   command-starts (C.Drop peer) e = drop-starts peer e
   command-starts C.Read e = not-false _ (accepted-none (stateOf k) C.Read e .1 .0)
   command-starts C.Waiting e = not-false _ (accepted-none (stateOf k) C.Waiting e .1 .0)
+  command-starts (C.Window slot start end) e = not-false _ (accepted-none (stateOf k) (C.Window slot start end) e .1 .1 .1 .0)
 
   pub accepted-starts : (c : Command) → numberOf (apply k c .answer) ≡ 0 → countsAsStarted (apply k c .keeper) ≡ true
   accepted-starts c e =
@@ -115,6 +116,7 @@ module _ (k : Keeper) (sized : Sized k) where
   command-sized (C.Drop peer) e = ended-sized sized peer _ _
   command-sized C.Read e = sized
   command-sized C.Waiting e = sized
+  command-sized (C.Window slot start end) e = sized
 
   pub apply-sized : (c : Command) → Sized (apply k c .keeper)
   apply-sized c =
@@ -139,6 +141,7 @@ Changed (A.Replied peer v) k l = (peer ≤ 15) × Moved k l (ended k peer (v .ed
 Changed (A.Dropped peer) k l = (peer ≤ 15) × Moved k l (ended k peer (k .edges) (k .conflicts))
 Changed (A.Time edges centre error conflicts waiting) k l = Moved k l k
 Changed A.Waiting k l = Moved k l k
+Changed (A.Heater slot window) k l = Moved k l k
 Changed (A.Refused n) k l = (n ≡ 0 → ⊥) × (l ≡ k)
 
 module _ (k : Keeper) where
@@ -158,6 +161,8 @@ module _ (k : Keeper) where
       (board-bound peer (not-false _ (c .0)), record { started = not-false _ (c .1 .0); next-is = refl })
   command-changes C.Read e = record { started = not-false _ (accepted-none (stateOf k) C.Read e .1 .0); next-is = refl }
   command-changes C.Waiting e = record { started = not-false _ (accepted-none (stateOf k) C.Waiting e .1 .0); next-is = refl }
+  command-changes (C.Window slot start end) e =
+      record { started = not-false _ (accepted-none (stateOf k) (C.Window slot start end) e .1 .1 .1 .0); next-is = refl }
 
   abbrev after : Command → Bool → Outcome
   after c t = choose t (λ _. accepted k c) (λ _. outcomeOf (A.Refused (refusal (stateOf k) c)) k)

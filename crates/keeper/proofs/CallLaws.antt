@@ -12,7 +12,7 @@ use Rattle.moment.specs.Intervals.{edgesWithin}
 use Rattle.rules.specs.Rules.{longestWait}
 use Rattle.rules.specs.Verdict.{leaves}
 use Rattle.command.specs.Limits.{boardWithin, tagWithin, keeps, formOf}
-use Rattle.command.specs.Causes.{Cause, cause, first, ownCauses}
+use Rattle.command.specs.Causes.{Cause, cause, first, dateCauses, ownCauses}
 use Rattle.command.specs.declared.Command.{Command}
 use Rattle.command.specs.declared.Command.the-variants as C
 use Rattle.command.proofs.LimitLaws.{board-bound}
@@ -36,15 +36,15 @@ module _ (k : Keeper) (c : Command) where
   pub apply-number-refused : (n : ℕ) → (n ≡ 0 → ⊥) → n ≡ refusal (stateOf k) c → outcomeOf (A.Refused n) k ≡ apply k c
   apply-number-refused n some e = sym (apply-refused n (ne-eqb n 0 some) (sym e))
 
--- a command's own cause
+-- a command's own cause, and that of one without dates
 module _ (rest : List Cause) (c : Command) where
   pub own-holds : keeps (formOf c) ≡ false → first (ownCauses c ++ rest) ≡ 2
   unfolding first ownCauses
   own-holds e = rw e
 
-  pub own-past : keeps (formOf c) ≡ true → first (ownCauses c ++ rest) ≡ first rest
+  pub own-past : dateCauses (formOf c) ≡ [] → keeps (formOf c) ≡ true → first (ownCauses c ++ rest) ≡ first rest
   unfolding first ownCauses
-  own-past e = rw e
+  own-past none e = rw (e, none)
 
 -- the causes of a command that names a peer, after 3 and 4
 module _ (s : State) (peer : ℕ) (rest : List Cause) where

@@ -2,6 +2,7 @@
 pub mod StartedLaws
 pub mod Causes
 pub mod Outcomes
+pub mod WindowLaws
 pub mod Listing
 pub mod CallLaws
 pub mod Returned

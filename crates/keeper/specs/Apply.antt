@@ -1,4 +1,4 @@
--- What each command does to a keeper, and what it answers: document 01, 'The calls'.
+-- What each command does to a keeper, and what it answers: document 01, 'The calls', and document 02, order 3.
 use mathlib.Core.Bool.{true}
 use mathlib.Core.List.{List}
 use Prim.Native.Nat.{ℕ, _+_, _-_, _^_}
@@ -10,8 +10,10 @@ use Rattle.bits.specs.Below.{countBelow}
 use Rattle.moment.specs.declared.Interval.{Interval}
 use Rattle.rules.specs.Rules.{widened, told, centre, errorOf}
 use Rattle.rules.specs.Verdict.{conflictsAfter}
+use Rattle.rules.specs.Windows.{windowOf}
 use Rattle.rules.specs.declared.Rule.{Rule}
 use Rattle.rules.specs.declared.Verdict.{Verdict}
+use Rattle.command.specs.Windows.{spanOf}
 use Rattle.command.specs.declared.Command.{Command}
 use Rattle.command.specs.declared.Command.the-variants as C
 use Rattle.keeper.specs.State.{stateOf, fresh}
@@ -96,6 +98,7 @@ accepted k C.Read =
     let edges = told (k .claim) (k .edges) in
     outcomeOf (A.Time edges (centre edges) (errorOf edges) (k .conflicts) (countBelow 16 (bitOf (k .waiting)))) k
 accepted k C.Waiting = outcomeOf A.Waiting k
+accepted k (C.Window slot start end) = outcomeOf (A.Heater slot (windowOf (spanOf start end) (told (k .claim) (k .edges)))) k
 
 -- What a command does: 'The keeper stays as it was in every row' of the refusals.
 unfoldable pub apply : Keeper → Command → Outcome
@@ -112,4 +115,5 @@ numberOf (A.Replied peer verdict) = 0
 numberOf (A.Dropped peer) = 0
 numberOf (A.Time edges c e conflicts waiting) = 0
 numberOf A.Waiting = 0
+numberOf (A.Heater slot window) = 0
 numberOf (A.Refused n) = n

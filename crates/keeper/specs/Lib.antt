@@ -2,3 +2,4 @@
 pub mod State
 pub mod Refusals
 pub mod Apply
+pub mod Windows

@@ -1,5 +1,6 @@
 -- Causes of a refusal, in document 01's order. 'The first cause that holds is given, tried in the order .. 2, 3, 4; then for request 6, 9; for
--- reply 7, 8, the conflict test, 5; for drop 7; for pass 5.' (10 and 1 come before, where the line is looked at; 2 is a command's own.)
+-- reply 7, 8, the conflict test, 5; for drop 7; for pass 5.' (10 and 1 come before, where the line is looked at; 2 is
+-- a command's own, and so are 11 and 12 of a window.)
 use mathlib.Core.Bool.{not, _&&_}
 use mathlib.Core.List.{List, [], _∷_, _++_}
 use Prim.Native.Nat.{ℕ, _+_, _-_}
@@ -47,6 +48,7 @@ keeperCauses s (C.Reply peer tag edges) = waitCauses s peer tag ++ cause 5 (leav
 keeperCauses s (C.Drop peer) = peerCauses s peer ++ cause 7 (not (s .waits peer)) ∷ []
 keeperCauses s C.Read = cause 3 (not (s .started)) ∷ []
 keeperCauses s C.Waiting = cause 3 (not (s .started)) ∷ []
+keeperCauses s (C.Window slot start end) = cause 3 (not (s .started)) ∷ []
 
 -- All causes of a command, after 10 and 1.
 unfoldable pub causes : State → Command → List Cause

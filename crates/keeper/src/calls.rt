@@ -14,7 +14,9 @@ use crate::steps::ended_with;
 use crate::steps::passed_to;
 use crate::steps::refused;
 use crate::steps::replied_with;
+use crate::windows::window_answer;
 use bits::count_of;
+use calendar::Date;
 use command::Command;
 use command::limits::start_within;
 use command::limits::ticks_within;
@@ -195,6 +197,17 @@ impl Keeper {
             keeper: self,
         }
     }
+
+    // Nothing changes, whatever is answered.
+    pub(crate) fn window(self, started: bool, slot: u8, start: Date, end: Date) -> Outcome
+        requires { ⌜ started ≡ countsAsStarted self ⌝ }
+        ensures { λ r. ⌜ r ≡ apply self (C.Window slot start end) ⌝ }
+    {
+        Outcome {
+            answer: window_answer(started, self.edges, slot, start, end),
+            keeper: self,
+        }
+    }
 }
 
 // A command is the call of its name.
@@ -215,6 +228,7 @@ pub fn apply_command(keeper: Keeper, started: bool, command: Command) -> Outcome
         Command::Drop { peer } => keeper.drop(started, peer),
         Command::Read => keeper.read(started),
         Command::Waiting => keeper.waiting(started),
+        Command::Window { slot, start, end } => keeper.window(started, slot, start, end),
     }
 }
 

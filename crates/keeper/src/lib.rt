@@ -2,12 +2,14 @@
 use moment::Interval;
 use rules::Rule;
 use rules::Verdict;
+use rules::Window;
 
 pub mod calls;
 pub mod number;
 mod refusals;
 mod started;
 mod steps;
+mod windows;
 
 // Of each other board (a peer, 0..15): its bit of `waiting` is set while a request to it waits, with the request's tag and the tick
 // count when it was sent; a peer with none waiting holds 0 for both. The order of the fields is the one with which the compiler copies
@@ -26,7 +28,7 @@ pub struct Keeper {
     pub ticks: u64,
 }
 
-// What a command answers. `Refused` has the number of document 01's table.
+// What a command answers. `Refused` has the number of the papers' tables.
 pub enum Answer {
     Started(u8),
     At(u64, Interval),
@@ -41,6 +43,7 @@ pub enum Answer {
         waiting: u32,
     },
     Waiting,
+    Heater(u8, Window),
     Refused(u8),
 }
 

@@ -20,6 +20,7 @@ pub fn number_of(answer: Answer) -> u8
             waiting: _,
         } => 0,
         Answer::Waiting => 0,
+        Answer::Heater(_, _) => 0,
         Answer::Refused(n) => n,
     }
 }

@@ -2,13 +2,13 @@
 -- 0 if none does.
 use mathlib.Core.Path.{_≡_, refl, sym, _∙_}
 use mathlib.Core.Bool.{Bool, true, false}
-use mathlib.Core.List.{List}
+use mathlib.Core.List.{List, _++_}
 use Prim.Native.Nat.{ℕ, suc}
 use lib.Dec.{ltb}
 use Rattle.bits.specs.Choice.{choose}
 use Rattle.bits.proofs.Tests.{by-test}
 use Rattle.command.specs.Limits.{keeps, formOf}
-use Rattle.command.specs.Causes.{first, ownCauses}
+use Rattle.command.specs.Causes.{first, dateCauses, ownCauses}
 use Rattle.command.specs.declared.Command.{Command}
 use Rattle.command.specs.declared.Command.the-variants as C
 use Rattle.command.specs.declared.Reading.{Reading}
@@ -24,8 +24,8 @@ use Rattle.keeper.proofs.Returned.{apply-number}
 use Rattle.writing.specs.Puts.{leastOutput}
 use Rattle.line.specs.Call.{byReading, answered, numberAfter, isNoShape, isOutside, commandCauses, callCauses}
 
--- a command that was read is within its limits: its own cause does not hold
-read-refusal : (s : State) (c : Command) → keeps (formOf c) ≡ true → refusal s c ≡ first (keeperCauses s c)
+-- a command that was read is within its limits: its cause 2 does not hold
+read-refusal : (s : State) (c : Command) → keeps (formOf c) ≡ true → refusal s c ≡ first (dateCauses (formOf c) ++ keeperCauses s c)
 unfolding refusal causes ownCauses first
 read-refusal s c e = rw e
 
@@ -53,6 +53,7 @@ command-numbered s (Accepted (C.Reply peer tag edges)) = refl
 command-numbered s (Accepted (C.Drop peer)) = refl
 command-numbered s (Accepted C.Read) = refl
 command-numbered s (Accepted C.Waiting) = refl
+command-numbered s (Accepted (C.Window slot start end)) = refl
 command-numbered s NoShape = refl
 command-numbered s OutsideLimits = refl
 

@@ -11,7 +11,7 @@ use Rattle.command.specs.Limits as R
 use Rattle.command.specs.declared.Reading.{Reading}
 use Rattle.command.specs.declared.Reading.the-variants.{Accepted, NoShape, OutsideLimits}
 use Rattle.reader.specs.Reading.{readingOf}
-use Rattle.command.specs.Causes.{Cause, cause}
+use Rattle.command.specs.Causes.{Cause, cause, dateCauses}
 use Rattle.keeper.specs.State.{State, stateOf}
 use Rattle.keeper.specs.Refusals.{keeperCauses}
 use Rattle.keeper.specs.Apply.{outcomeOf, apply, numberOf}
@@ -38,7 +38,8 @@ numberAfter k line room = choose (ltb room leastOutput) (λ _. 10) (λ _. number
 unfoldable pub keeperAfter : Keeper → List ℕ → ℕ → Keeper
 keeperAfter k line room = choose (ltb room leastOutput) (λ _. k) (λ _. answered k line .keeper)
 
--- 'The first cause that holds is given, tried in the order 10, 1, 2', and then those that look at the keeper.
+-- 'The first cause that holds is given, tried in the order 10, 1, 2', then those of dates, 'both after 2 and before 3', and then those that look
+-- at the keeper.
 abbrev pub isNoShape : Reading → Bool
 isNoShape (Accepted c) = false
 isNoShape NoShape = true
@@ -50,7 +51,7 @@ isOutside NoShape = false
 isOutside OutsideLimits = true
 
 abbrev pub commandCauses : State → Reading → List Cause
-commandCauses s (Accepted c) = keeperCauses s c
+commandCauses s (Accepted c) = dateCauses (R.formOf c) ++ keeperCauses s c
 commandCauses s NoShape = []
 commandCauses s OutsideLimits = []
 

@@ -80,6 +80,7 @@ module _
     stored-left (A.Dropped peer) l (small, m) = ended-left l peer (keeperIn image .edges) (keeperIn image .conflicts) small m
     stored-left (A.Time edges centre error conflicts waiting) l m = stored-into m (λ i. i) refl
     stored-left A.Waiting l m = stored-into m (λ i. i) refl
+    stored-left (A.Heater slot window) l m = stored-into m (λ i. i) refl
     stored-left (A.Refused n) l (some, same) = left-refused image n l some
 
     pub command-stored : (c : Command) → let o = apply (keeperIn image) c in storedAfter (o .answer) (o .keeper) image ≡ imageLeft image (numberOf (o .answer)) (o .keeper)

@@ -27,6 +27,7 @@ storedAfter (A.Replied peer verdict) k image = endedImage image (k .waiting) (k 
 storedAfter (A.Dropped peer) k image = endedImage image (k .waiting) (k .edges) (k .conflicts) peer
 storedAfter (A.Time edges centre error conflicts waiting) k image = image
 storedAfter A.Waiting k image = image
+storedAfter (A.Heater slot window) k image = image
 storedAfter (A.Refused n) k image = image
 
 -- A command on the keeper that stands in the image: its answer is written, and the image becomes that of the keeper which it gives; a refused

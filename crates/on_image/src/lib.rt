@@ -41,6 +41,7 @@ fn store_changes(image: &mut [u8], answer: Answer, keeper: Keeper)
             waiting: _,
         } => {}
         Answer::Waiting => {}
+        Answer::Heater(_, _) => {}
         Answer::Refused(_) => {}
     }
 }

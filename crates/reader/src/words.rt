@@ -6,7 +6,7 @@ use shapes::Numbered;
 use text::words::Word;
 use text::words::word_at;
 ghost use mathlib.Core.Path.{_≡_};
-ghost use Rattle.reader.specs.Reading.{rareShapes, wordOf, wordFrom};
+ghost use Rattle.reader.specs.Reading.{rareShapes, lastShapes, wordOf, wordFrom};
 
 // A form's word, and the place after it; `Unknown`, and the place that was looked at.
 pub struct WordAt(pub FormWord, pub usize);
@@ -40,6 +40,16 @@ fn rare_word(line: &[u8], at: usize) -> WordAt
     }
     if let Word::After(next) = word_at(line, at, b"(waiting)") {
         return WordAt(FormWord::Bare(Bare::Waiting), next);
+    }
+    last_word(line, at)
+}
+
+// The same of the words that are looked for last: a window's, and the start's, which comes once.
+fn last_word(line: &[u8], at: usize) -> WordAt
+    ensures { λ r. ⌜ r ≡ wordOf lastShapes (now (line .entry)) at ⌝ }
+{
+    if let Word::After(next) = word_at(line, at, b"(window ") {
+        return WordAt(FormWord::Window, next);
     }
     let Word::After(next) = word_at(line, at, b"(start ") else {
         return WordAt(FormWord::Unknown, at);

@@ -1,6 +1,7 @@
 -- The theorem of order 1 (`round-trip`): the grammar has every line that is written, and a line that the grammar has is the plain spelling of
 -- its form.
 use mathlib.Core.Path.{_≡_, refl, sym, ap, _∙_}
+use mathlib.Core.Bool.{true}
 use mathlib.Core.List.{List, _++_}
 use Prim.Native.Nat.{ℕ, _≤_}
 use native.Mathlib.Omega.{arith}
@@ -10,12 +11,12 @@ use Rattle.writing.specs.Puts.{leastOutput}
 use Rattle.command.specs.Spelling.{plainSpelling}
 use Rattle.command.specs.Forms as F
 use Rattle.command.specs.Forms.{Form}
-use Rattle.command.specs.Limits.{formOf, commandOf}
-use Rattle.command.specs.Causes.{first, formCauses, ownCauses}
+use Rattle.command.specs.Limits.{keeps, formOf, commandOf}
+use Rattle.command.specs.Causes.{first, dateCauses, formCauses, ownCauses}
 use Rattle.command.specs.declared.Command.{Command}
 use Rattle.command.specs.declared.Reading.{Reading}
 use Rattle.command.specs.declared.Reading.the-variants.{Accepted}
-use Rattle.command.proofs.SpellingLaws.{spelling-plain, uncaused-keeps, kept-uncaused, plain-spells, plain-most}
+use Rattle.command.proofs.SpellingLaws.{spelling-plain, uncaused-keeps, plain-spells, plain-most}
 use Rattle.lines.specs.Lines.{breaks}
 use Rattle.reader.specs.Reading.{readingOf}
 use Rattle.reader.specs.Grammar.{Shaped}
@@ -43,11 +44,17 @@ line-back line c out e accepted =
     let (room, none) = written-accepts c out .0 accepted in
     written-line c out room none ∙ ap (λ (s : List ℕ). writeResult 0 (length s) (s ++ drop (length s) out)) same
 
-line-accepted : (line : List ℕ) (c : Command) (out : List ℕ) → readingOf line ≡ Accepted c → leastOutput ≤ length out → NotRefused c out
+-- a form that keeps its limits has no cause but those of its dates
+kept-causes : (f : Form) → keeps f ≡ true → first (formCauses f) ≡ first (dateCauses f)
+unfolding first
+kept-causes f kept = rw kept
+
+line-accepted : (line : List ℕ) (c : Command) (out : List ℕ) → readingOf line ≡ Accepted c → leastOutput ≤ length out
+    → first (dateCauses (formOf c)) ≡ 0 → NotRefused c out
 unfolding ownCauses
-line-accepted line c out e room =
+line-accepted line c out e room dated =
     let (shaped, kept) = reads-the-grammar line .command c .0 e in
-    written-accepts c out .1 (room, kept-uncaused (formOf c) kept)
+    written-accepts c out .1 (room, kept-causes (formOf c) kept ∙ dated)
 
 command-back : (c : Command) (out : List ℕ) → NotRefused c out → readingOf (lineIn c out) ≡ Accepted c
 command-back c out e =
@@ -68,6 +75,7 @@ form-line (F.reply peer tag edges) out = refl
 form-line (F.drop peer) out = refl
 form-line F.read out = refl
 form-line F.waiting out = refl
+form-line (F.window slot begins ends) out = refl
 
 pub round-trip : RoundTrip
 round-trip =

@@ -7,8 +7,8 @@ use Prim.Native.Nat.{ℕ, _≤_}
 use lib.ListN.{length, take, drop}
 use Rattle.writing.specs.Puts.{leastOutput}
 use Rattle.command.specs.Forms.{Form}
-use Rattle.command.specs.Limits.{commandOf}
-use Rattle.command.specs.Causes.{first, ownCauses}
+use Rattle.command.specs.Limits.{formOf, commandOf}
+use Rattle.command.specs.Causes.{first, dateCauses, ownCauses}
 use Rattle.command.specs.declared.Command.{Command}
 use Rattle.command.specs.declared.Reading.the-variants.{Accepted}
 use Rattle.lines.specs.Lines.{breaks}
@@ -29,8 +29,10 @@ pub record RoundTrip : Type 0 where
   -- the front of every buffer in which the command is not refused
   pub line-back : (line : List ℕ) (c : Command) (out : List ℕ) → readingOf line ≡ Accepted c → NotRefused c out
       → written c out ≡ writeResult 0 (length line) (line ++ drop (length line) out)
-  -- a buffer with room is such a buffer: what is read as a command is within its limits
-  pub line-accepted : (line : List ℕ) (c : Command) (out : List ℕ) → readingOf line ≡ Accepted c → leastOutput ≤ length out → NotRefused c out
+  -- A buffer with room is such a buffer for every line that is accepted: what is read as a command is within its limits, so that of 'the refusals
+  -- that they have before 3' only those of its dates are left, 11 and 12. No command but a window has any.
+  pub line-accepted : (line : List ℕ) (c : Command) (out : List ℕ) → readingOf line ≡ Accepted c → leastOutput ≤ length out
+      → first (dateCauses (formOf c)) ≡ 0 → NotRefused c out
   -- 'Each command that it doesn't refuse, written and read, gives the same command.'
   pub command-back : (c : Command) (out : List ℕ) → NotRefused c out → readingOf (lineIn c out) ≡ Accepted c
   -- 'Two such commands have equal lines exactly when they are equal.'

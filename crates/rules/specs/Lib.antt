@@ -1,4 +1,5 @@
--- The rules on edges, and the verdict on a reply.
+-- The rules on edges, the verdict on a reply, and windows.
 pub mod Rules
 pub mod Verdict
 pub mod Spans
+pub mod Windows

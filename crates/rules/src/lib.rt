@@ -3,6 +3,7 @@ use moment::Interval;
 
 pub mod edges;
 pub mod judge;
+pub mod windows;
 
 // The most ticks that a reply may come after its request.
 pub const LONGEST_WAIT: u64 = 3600000;
@@ -24,4 +25,11 @@ pub enum Finding {
 pub struct Verdict {
     pub finding: Finding,
     pub edges: Interval,
+}
+
+// What is told of a window: every moment within the edges is inside, none is, or some may be.
+pub enum Window {
+    Open,
+    Shut,
+    Unsure,
 }

@@ -22,9 +22,13 @@ use Rattle.numeral.specs.declared.read.Signed.{Signed}
 use Rattle.numeral.specs.declared.read.Signed.the-variants as S
 use Rattle.numeral.proofs.Numerals.{numeral-read, read-numeral}
 use Rattle.numeral.proofs.SignedNumerals.{signed-read, read-signed, integer-is}
+use Rattle.dates.specs.DateReading.{dateAt}
+use Rattle.dates.specs.declared.read.DateAt.{DateAt}
+use Rattle.dates.specs.declared.read.DateAt.the-variants as D
+use Rattle.dates.proofs.DateLaws.{read-date, date-read}
 use Rattle.command.specs.Forms as F
 use Rattle.command.specs.Forms.{Part, Spells, ruleText}
-use Rattle.shapes.specs.Shapes.{Kind, text, rule, number, edge, Values, before, ruleFrom, ruleAt, endAt, afterWord, afterRule, atEnd, afterNumber, afterSigned, readParts}
+use Rattle.shapes.specs.Shapes.{Kind, text, rule, number, edge, date, Values, before, ruleFrom, ruleAt, endAt, afterWord, afterRule, atEnd, afterNumber, afterSigned, afterDate, readParts}
 use Rattle.shapes.specs.declared.parts.RuleAt.{RuleAt}
 use Rattle.shapes.specs.declared.parts.RuleAt.the-variants as R
 use Rattle.shapes.specs.declared.parts.End.the-variants as E
@@ -39,6 +43,7 @@ partsOf (text t ∷ ks) v = F.text t ∷ partsOf ks v
 partsOf (rule ∷ ks) v = F.rule (v .0) ∷ partsOf ks (v .1)
 partsOf (number ∷ ks) v = F.number (v .0) ∷ partsOf ks (v .1)
 partsOf (edge ∷ ks) v = F.edge (v .0) ∷ partsOf ks (v .1)
+partsOf (date ∷ ks) v = F.date (v .0) ∷ partsOf ks (v .1)
 
 -- ---- what is read is a spelling
 
@@ -119,6 +124,15 @@ sound (edge ∷ ks) line at v e = go (signedAt line at) refl e (λ next w h. sou
         let s = read-signed line at b m next p in
         sound-before (λ w. Spells (partsOf (edge ∷ ks) w) (drop at line)) (integer b m) (readParts ks line next) v h
         (λ w q. (s .bytes, drop next line, s .kind, s .here, ih next w q))
+sound (date ∷ ks) line at v e = go (dateAt line at) refl e (λ next w h. sound ks line next w h)
+  where
+    go : (r : DateAt) → dateAt line at ≡ r → afterDate r (λ d next. before d (readParts ks line next)) ≡ some v
+        → ((next : ℕ) (w : Values ks) → readParts ks line next ≡ some w → Spells (partsOf ks w) (drop next line)) → Spells (partsOf (date ∷ ks) v) (drop at line)
+    go D.Absent p h ih = absurd (let k : _≡_ {A = ℕ} 0 1 = cc in omega arith)
+    go (D.Of d next) p h ih =
+        let s = read-date line at d next p in
+        sound-before (λ w. Spells (partsOf (date ∷ ks) w) (drop at line)) d (readParts ks line next) v h
+        (λ w q. (s .bytes, drop next line, s .kind, s .here, ih next w q))
 
 -- ---- a spelling is read
 
@@ -134,6 +148,7 @@ follows (text t ∷ ks) = opens (bytes t)
 follows (rule ∷ ks) = true
 follows (number ∷ ks) = false
 follows (edge ∷ ks) = false
+follows (date ∷ ks) = false
 
 -- after a numeral comes no digit
 abbrev pub apart : List Kind → Bool
@@ -142,6 +157,7 @@ apart (text t ∷ ks) = apart ks
 apart (rule ∷ ks) = apart ks
 apart (number ∷ ks) = follows ks && apart ks
 apart (edge ∷ ks) = follows ks && apart ks
+apart (date ∷ ks) = apart ks
 
 opened : (s rest : List ℕ) → opens s ≡ true → numeralEnds (s ++ rest) ≡ true
 opened [] rest e = absurd (let k : _≡_ {A = ℕ} 0 1 = cc in omega arith)
@@ -157,6 +173,7 @@ ends-apart (rule ∷ ks) v rest e (s, more, p, f, h) = go (v .0) p
     go Mm q = rw (f, q)
 ends-apart (number ∷ ks) v rest e h = absurd (let k : _≡_ {A = ℕ} 0 1 = cc in omega arith)
 ends-apart (edge ∷ ks) v rest e h = absurd (let k : _≡_ {A = ℕ} 0 1 = cc in omega arith)
+ends-apart (date ∷ ks) v rest e h = absurd (let k : _≡_ {A = ℕ} 0 1 = cc in omega arith)
 
 -- the line from the place after the bytes
 pub rest-is : (line : List ℕ) (at : ℕ) (s rest : List ℕ) → drop at line ≡ s ++ rest → drop (at + length s) line ≡ rest
@@ -194,4 +211,9 @@ complete (edge ∷ ks) a line at v (s, rest, p, f, h) =
       signed-read line at (v .0) s rest p f (ends-apart ks (v .1) rest (apartness .0) h),
       complete ks (apartness .1) line (at + length s) (v .1) (rw (rest-is line at s rest f) h),
       integer-is (v .0),
+    )
+complete (date ∷ ks) a line at v (s, rest, p, f, h) =
+    rw (
+      date-read line at (v .0) s rest p f,
+      complete ks a line (at + length s) (v .1) (rw (rest-is line at s rest f) h),
     )

@@ -1,7 +1,9 @@
 -- The values of what the part readers answer.
 use mathlib.Core.Option.{Option, none, some}
 use Rattle.command.specs.Edges.{edgeValue}
-use Rattle.shapes.specs.Shapes.{Values, lastEdges, lastNumber}
+use Rattle.shapes.specs.Shapes.{Values, lastEdges, lastDates, lastNumber}
+use Rattle.shapes.specs.declared.parts.Dates.{Dates}
+use Rattle.shapes.specs.declared.parts.Dates.the-variants as D
 use Rattle.shapes.specs.declared.parts.Edges.{Edges}
 use Rattle.shapes.specs.declared.parts.Edges.the-variants as E
 use Rattle.shapes.specs.declared.parts.LastNumber.{LastNumber}
@@ -11,6 +13,10 @@ use Rattle.shapes.specs.declared.parts.LastNumber.the-variants as L
 abbrev pub edgesRead : Edges → Option (Values lastEdges)
 edgesRead (E.Of lower upper) = some (edgeValue lower, (edgeValue upper, tt))
 edgesRead E.Absent = none
+
+abbrev pub datesRead : Dates → Option (Values lastDates)
+datesRead (D.Of start end) = some (start, (end, tt))
+datesRead D.Absent = none
 
 abbrev pub numberRead : LastNumber → Option (Values lastNumber)
 numberRead (L.Of n) = some (n, tt)

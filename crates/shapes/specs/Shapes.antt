@@ -15,6 +15,10 @@ use Rattle.numeral.specs.declared.read.Number.{Number}
 use Rattle.numeral.specs.declared.read.Number.the-variants as N
 use Rattle.numeral.specs.declared.read.Signed.{Signed}
 use Rattle.numeral.specs.declared.read.Signed.the-variants as S
+use Rattle.calendar.specs.declared.Date.{Date}
+use Rattle.dates.specs.DateReading.{dateAt}
+use Rattle.dates.specs.declared.read.DateAt.{DateAt}
+use Rattle.dates.specs.declared.read.DateAt.the-variants as D
 use Rattle.moment.specs.Intervals.{interval}
 use Rattle.command.specs.Forms as F
 use Rattle.command.specs.Forms.{Form}
@@ -37,10 +41,10 @@ use Rattle.command.specs.declared.Reading.{Reading}
 use Rattle.command.specs.declared.Reading.the-variants.{NoShape}
 use Rattle.bits.specs.Choice.{choose}
 
--- What is read one after the other: a text, the rule's word, a numeral, a signed numeral.
+-- What is read one after the other: a text, the rule's word, a numeral, a signed numeral, a date.
 pub data Kind : Type 0 where
   text : String → Kind
-  rule number edge : Kind
+  rule number edge date : Kind
 
 -- The values that are read.
 abbrev pub Values : List Kind → Type 0
@@ -49,6 +53,7 @@ Values (text t ∷ ks) = Values ks
 Values (rule ∷ ks) = Rule × Values ks
 Values (number ∷ ks) = ℕ × Values ks
 Values (edge ∷ ks) = ℤ × Values ks
+Values (date ∷ ks) = Date × Values ks
 
 -- The rule whose word stands at the place, with the place after it.
 abbrev pub ruleFrom : Word → Word → RuleAt
@@ -89,6 +94,10 @@ abbrev pub afterSigned : {A : Type 0} → Signed → (ℤ → ℕ → Option A) 
 afterSigned (S.Of negative magnitude next) k = k (integer negative magnitude) next
 afterSigned S.Absent k = none
 
+abbrev pub afterDate : {A : Type 0} → DateAt → (Date → ℕ → Option A) → Option A
+afterDate (D.Of d next) k = k d next
+afterDate D.Absent k = none
+
 -- Parts of these kinds from the place to the line's last byte, 'and no byte after its last bracket'.
 unfoldable pub readParts : (ks : List Kind) → List ℕ → ℕ → Option (Values ks)
 readParts [] line at = atEnd (endAt line at) tt
@@ -96,6 +105,7 @@ readParts (text t ∷ ks) line at = afterWord (wordAt line at (bytes t)) (λ nex
 readParts (rule ∷ ks) line at = afterRule (ruleAt line at) (λ r next. before r (readParts ks line next))
 readParts (number ∷ ks) line at = afterNumber (numberAt line at) (λ n next. before n (readParts ks line next))
 readParts (edge ∷ ks) line at = afterSigned (signedAt line at) (λ z next. before z (readParts ks line next))
+readParts (date ∷ ks) line at = afterDate (dateAt line at) (λ d next. before d (readParts ks line next))
 
 -- A shape of the grammar: its form's word, the text that it begins with, what follows, and the form that it is of.
 pub record Shape : Type 0 where
@@ -104,9 +114,12 @@ pub record Shape : Type 0 where
   pub kinds : List Kind
   pub form : Values kinds → Form
 
--- '(LOWER UPPER)' at the end of a line, and a last numeral
+-- '(LOWER UPPER)' and '(DATE DATE)' at the end of a line, and a last numeral
 abbrev pub lastEdges : List Kind
 lastEdges = text " (" ∷ edge ∷ text " " ∷ edge ∷ text "))" ∷ []
+
+abbrev pub lastDates : List Kind
+lastDates = text " (" ∷ date ∷ text " " ∷ date ∷ text "))" ∷ []
 
 abbrev pub lastNumber : List Kind
 lastNumber = number ∷ text ")" ∷ []
@@ -161,6 +174,10 @@ bareForm Waiting = F.waiting
 abbrev pub bareShape : Bare → Shape
 bareShape w = record { named = W.Bare w; word = bareText w; kinds = []; form = λ v. bareForm w }
 
+abbrev pub windowShape : Shape
+windowShape =
+    record { named = W.Window; word = "(window "; kinds = number ∷ lastDates; form = λ v. F.window (v .0) (v .1 .0) (v .1 .1 .0) }
+
 -- The form of what was read, if it was.
 abbrev pub formed : {A : Type 0} → (A → Form) → Option A → Option Form
 formed f none = none
@@ -180,4 +197,5 @@ unfoldable pub restOf : FormWord → List ℕ → ℕ → Reading
 restOf (W.Edged w) line at = shapedFrom (edgedShape w) line at
 restOf (W.Numbered w) line at = shapedFrom (numberedShape w) line at
 restOf (W.Bare w) line at = shapedFrom (bareShape w) line at
+restOf W.Window line at = shapedFrom windowShape line at
 restOf W.Unknown line at = NoShape

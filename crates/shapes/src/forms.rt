@@ -3,11 +3,13 @@
 use crate::Bare;
 use crate::Edged;
 use crate::Numbered;
+use crate::parts::Dates;
 use crate::parts::Edges;
 use crate::parts::End;
 use crate::parts::LastNumber;
 use crate::parts::RuleAt;
 use crate::parts::end_at;
+use crate::parts::last_dates;
 use crate::parts::last_edges;
 use crate::parts::last_number;
 use crate::parts::rule_at;
@@ -18,12 +20,13 @@ use command::accept::accept_pass;
 use command::accept::accept_reply;
 use command::accept::accept_request;
 use command::accept::accept_start;
+use command::accept::accept_window;
 use numeral::read::Number;
 use numeral::read::read_number;
 use text::words::Word;
 use text::words::word_at;
 ghost use mathlib.Core.Path.{_≡_};
-ghost use Rattle.shapes.specs.Shapes.{shapedFrom, startShape, replyShape, edgedShape, numberedShape, bareShape};
+ghost use Rattle.shapes.specs.Shapes.{shapedFrom, startShape, replyShape, edgedShape, numberedShape, bareShape, windowShape};
 
 fn start_form(line: &[u8], at: usize) -> Reading
     ensures { λ r. ⌜ r ≡ shapedFrom startShape (now (line .entry)) at ⌝ }
@@ -95,4 +98,16 @@ pub fn bare_form(line: &[u8], at: usize, word: Bare) -> Reading
         Bare::Read => Reading::Accepted(Command::Read),
         Bare::Waiting => Reading::Accepted(Command::Waiting),
     }
+}
+
+pub fn window_form(line: &[u8], at: usize) -> Reading
+    ensures { λ r. ⌜ r ≡ shapedFrom windowShape (now (line .entry)) at ⌝ }
+{
+    let Number::Of(slot, at) = read_number(line, at) else {
+        return Reading::NoShape;
+    };
+    let Dates::Of(start, end) = last_dates(line, at) else {
+        return Reading::NoShape;
+    };
+    accept_window(slot, start, end)
 }

@@ -1,7 +1,8 @@
-// The words that begin a command line, and the parts that follow each: document 01, 'Line forms'.
+// The words that begin a command line, and the parts that follow each: document 01, 'Line forms', and document 02, order 3.
 use crate::forms::bare_form;
 use crate::forms::edged_form;
 use crate::forms::numbered_form;
+use crate::forms::window_form;
 use command::Reading;
 
 mod forms;
@@ -34,6 +35,7 @@ pub enum FormWord {
     Edged(Edged),
     Numbered(Numbered),
     Bare(Bare),
+    Window,
     Unknown,
 }
 
@@ -45,6 +47,7 @@ pub fn parts_from(line: &[u8], at: usize, word: FormWord) -> Reading
         FormWord::Edged(form) => edged_form(line, at, form),
         FormWord::Numbered(form) => numbered_form(line, at, form),
         FormWord::Bare(form) => bare_form(line, at, form),
+        FormWord::Window => window_form(line, at),
         FormWord::Unknown => Reading::NoShape,
     }
 }

@@ -1,5 +1,8 @@
 // The parts that end a line, and the rule's word: what several forms share.
+use calendar::Date;
 use command::accept::Edge;
+use dates::read::DateAt;
+use dates::read::read_date;
 use numeral::read::Number;
 use numeral::read::Signed;
 use numeral::read::read_number;
@@ -8,8 +11,8 @@ use rules::Rule;
 use text::words::Word;
 use text::words::word_at;
 ghost use mathlib.Core.Path.{_≡_};
-ghost use Rattle.shapes.specs.Parts.{edgesRead, numberRead};
-ghost use Rattle.shapes.specs.Shapes.{ruleAt, endAt, readParts, lastEdges, lastNumber};
+ghost use Rattle.shapes.specs.Parts.{edgesRead, datesRead, numberRead};
+ghost use Rattle.shapes.specs.Shapes.{ruleAt, endAt, readParts, lastEdges, lastDates, lastNumber};
 
 // The rule whose word stands at a place with the place after it, or none.
 pub enum RuleAt {
@@ -26,6 +29,12 @@ pub enum End {
 // The two edges that end a line, or that it does not end so.
 pub enum Edges {
     Of(Edge, Edge),
+    Absent,
+}
+
+// The two dates that end a line, or that it does not end so.
+pub enum Dates {
+    Of(Date, Date),
     Absent,
 }
 
@@ -100,6 +109,31 @@ pub fn last_edges(line: &[u8], at: usize) -> Edges
         return Edges::Absent;
     };
     Edges::Of(lower, upper)
+}
+
+// ' (DATE DATE))' and no byte after it
+pub fn last_dates(line: &[u8], at: usize) -> Dates
+    ensures { λ r. ⌜ datesRead r ≡ readParts lastDates (now (line .entry)) at ⌝ }
+{
+    let Word::After(first) = word_at(line, at, b" (") else {
+        return Dates::Absent;
+    };
+    let DateAt::Of(start, next) = read_date(line, first) else {
+        return Dates::Absent;
+    };
+    let Word::After(second) = word_at(line, next, b" ") else {
+        return Dates::Absent;
+    };
+    let DateAt::Of(end, next) = read_date(line, second) else {
+        return Dates::Absent;
+    };
+    let Word::After(after) = word_at(line, next, b"))") else {
+        return Dates::Absent;
+    };
+    let End::Here = end_at(line, after) else {
+        return Dates::Absent;
+    };
+    Dates::Of(start, end)
 }
 
 // 'N)' and no byte after it

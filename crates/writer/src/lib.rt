@@ -10,11 +10,13 @@ use form_lines::write_reply;
 use form_lines::write_request;
 use form_lines::write_start;
 use form_lines::write_waiting;
+use form_lines::write_window;
 ghost use mathlib.Core.Path.{_≡_};
 ghost use Rattle.form_lines.specs.Written.{writeResult};
 ghost use Rattle.writer.specs.Written.{written, writtenReading};
 
-// Writes the line of a command. One with a number outside its limits, or a first edge above the second, is refused with 2.
+// Writes the line of a command. One with a number outside its limits, or a first edge above the second, is refused with 2; a window with a date
+// that doesn't exist with 11, one whose end isn't later than its start with 12.
 pub fn write_command(out: &mut [u8], command: Command) -> Written
     ensures { λ r. ⌜ writeResult (r .number) (r .length) (now (out .exit)) ≡ written command (now (out .entry)) ⌝ }
 {
@@ -31,6 +33,7 @@ pub fn write_command(out: &mut [u8], command: Command) -> Written
         Command::Drop { peer } => write_drop(out, peer as u64),
         Command::Read => write_read(out),
         Command::Waiting => write_waiting(out),
+        Command::Window { slot, start, end } => write_window(out, slot as u64, start, end),
     }
 }
 

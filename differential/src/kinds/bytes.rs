@@ -8,7 +8,7 @@ use crate::test::Test;
 
 const LINES_OF_EACH: u64 = 100_000;
 
-const ALPHABET: &[u8] = b"()- 0123456789abcdefghijklmnopqrstuvwxyz\n\r\t\0_x";
+const ALPHABET: &[u8] = b"()- 0123456789abcdefghijklmnopqrstuvwxyz\n\r\t\0_xT:";
 
 const PARTS: &[&str] = &[
     "(",
@@ -41,6 +41,10 @@ const PARTS: &[&str] = &[
     "(reply ",
     "(drop ",
     "(start ",
+    "window",
+    "(window ",
+    "2000-01-01T00:00:00",
+    "(1999-12-31T23:59:59 ",
     "4000000000000000000",
     "\n",
 ];

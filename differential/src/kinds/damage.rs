@@ -19,6 +19,8 @@ const LINES: &[&str] = &[
     "(drop 15)",
     "(read)",
     "(waiting)",
+    "(window 3 (1999-12-31T23:59:59 2000-02-29T00:00:00))",
+    "(window 15 (1900-01-01T00:00:00 2099-12-31T23:59:59))",
 ];
 
 pub fn run(test: &mut Test) {

@@ -1,4 +1,4 @@
-//! Numerals at every limit, one past it, and spelled wrongly.
+//! Numerals and dates at every limit, one past it, and spelled wrongly.
 
 use super::states;
 use crate::fitting;
@@ -90,6 +90,69 @@ const EDGE: Place = Place {
     long: LONG,
 };
 
+const SLOT: Place = Place {
+    ordinary: &["0", "5", "15"],
+    at_limits: &["0", "9", "10", "14", "15", "16", "17", "255", "256", "272"],
+    long: LONG,
+};
+const DATE: Place = Place {
+    ordinary: &[
+        "1999-12-31T23:59:59",
+        "2000-01-01T00:00:00",
+        "2000-01-01T00:00:01",
+    ],
+    at_limits: &[
+        "1899-12-31T23:59:59",
+        "1900-01-01T00:00:00",
+        "1900-02-28T23:59:59",
+        "1900-02-29T00:00:00",
+        "2000-02-29T23:59:59",
+        "2000-02-30T00:00:00",
+        "2099-12-31T23:59:59",
+        "2100-01-01T00:00:00",
+        "2000-00-01T00:00:00",
+        "2000-01-00T00:00:00",
+        "2000-13-01T00:00:00",
+        "2000-01-32T00:00:00",
+        "2000-04-31T00:00:00",
+        "2000-01-01T24:00:00",
+        "2000-01-01T00:60:00",
+        "2000-01-01T00:00:60",
+        "0000-00-00T00:00:00",
+        "9999-99-99T99:99:99",
+        // From here on no date has this spelling.
+        "200-01-01T00:00:00",
+        "02000-01-01T00:00:00",
+        "12000-01-01T00:00:00",
+        "-2000-01-01T00:00:00",
+        "+200-01-01T00:00:00",
+        "2000-1-01T00:00:00",
+        "2000-001-01T00:00:00",
+        "2000-01-1T00:00:00",
+        "2000-01-001T00:00:00",
+        "2000-01-01T0:00:00",
+        "2000-01-01T000:00:00",
+        "2000-01-01T00:0:00",
+        "2000-01-01T00:000:00",
+        "2000-01-01T00:00:0",
+        "2000-01-01T00:00:000",
+        "2000-01-01T00:00:-1",
+        "2000-01- 1T00:00:00",
+        "2000-01-01T00:00",
+        "2000-01-01",
+        "2000-01-01 00:00:00",
+        "2000-01-01t00:00:00",
+        "2000/01/01T00:00:00",
+        "2000-01-01T00.00.00",
+        "2000-01-01T00:00:00Z",
+        "2000-01-01T00:00:00.0",
+        "20000101T000000",
+        "2_00-01-01T00:00:00",
+        "(2000-01-01T00:00:00)",
+    ],
+    long: &["1999-12-31T23:59:59", "2000-01-01T00:00:00"],
+};
+
 /// What has no numeral's spelling or breaks every limit: leading zeros, signs,
 /// 19 and 20 digits, bytes beside the digits.
 const ODD: &[&str] = &[
@@ -133,10 +196,11 @@ const FORMS: &[(&[&str], &[&Place])] = &[
         &[&PEER, &TAG, &EDGE, &EDGE],
     ),
     (&["(drop ", ")"], &[&PEER]),
+    (&["(window ", " (", " ", "))"], &[&SLOT, &DATE, &DATE]),
 ];
 
 pub fn run(test: &mut Test) {
-    let mut random = test.begin("numerals at limits");
+    let mut random = test.begin("numerals and dates at limits");
     let states = states::all(test);
     for state in &states {
         one_place_at_a_time(test, &mut random, state);

@@ -3,6 +3,7 @@
 mod adoptions;
 mod bytes;
 mod damage;
+mod dates;
 mod handmade;
 mod images;
 mod lengths;
@@ -12,6 +13,7 @@ mod program;
 mod sessions;
 mod states;
 mod waits;
+mod windows;
 mod writes;
 
 use crate::test::Test;
@@ -29,4 +31,6 @@ pub fn run_all(test: &mut Test) {
     passes::run(test);
     program::run(test);
     writes::run(test);
+    windows::run(test);
+    dates::run(test);
 }

@@ -1,10 +1,14 @@
-//! Commands to be written: numbers at every limit and of every size, outputs of
-//! every length.
+//! Commands to be written: numbers and dates at every limit and of every size,
+//! outputs of every length.
 
+use super::dates::{self, random_six, some_date};
 use super::states;
+use crate::date::Date;
 use crate::fitting;
 use crate::lent::LONGEST;
-use crate::limits::{Image, LAST_CLAIM, LAST_MOMENT, LAST_PASS, LAST_TAG, PEERS, SHORTEST_OUTPUT};
+use crate::limits::{
+    Image, LAST_CLAIM, LAST_MOMENT, LAST_PASS, LAST_TAG, PEERS, SHORTEST_OUTPUT, SLOTS,
+};
 use crate::random::Random;
 use crate::test::Test;
 use crate::write::Command;
@@ -96,6 +100,10 @@ const FORMS: &[Command] = &[
     Command::Drop { peer: 256 },
     Command::Read,
     Command::Waiting,
+    window(15, Date::FIRST, Date::LAST),
+    window(16, Date::FIRST, Date::LAST),
+    window(15, Date::FIRST, Date::ZEROS),
+    window(15, Date::LAST, Date::LAST),
 ];
 
 const fn start(board: u64, rule: u64, claim: u64, lower: i64, upper: i64) -> Command {
@@ -117,6 +125,10 @@ const fn reply(peer: u64, tag: u64, trailing: i64, leading: i64) -> Command {
     }
 }
 
+const fn window(slot: u64, start: Date, end: Date) -> Command {
+    Command::Window { slot, start, end }
+}
+
 pub fn run(test: &mut Test) {
     at_limits(test);
     outputs(test);
@@ -133,6 +145,8 @@ fn at_limits(test: &mut Test) {
         .flat_map(|&first| EDGES.iter().map(move |&second| (first, second)));
     let mut commands: Vec<Command> = NUMBERS.iter().flat_map(|&n| with_number(n)).collect();
     commands.extend(pairs.flat_map(with_edges));
+    let of_dates = NUMBERS.iter().chain(dates::NUMBERS);
+    commands.extend(of_dates.flat_map(|&n| with_number_of_a_date(n)));
     for _ in 0..ROUNDS {
         for &command in &commands {
             write_and_read(test, &mut random, &states, command, SHORTEST_OUTPUT);
@@ -141,7 +155,7 @@ fn at_limits(test: &mut Test) {
 }
 
 /// The commands that have this number in one place.
-fn with_number(number: u64) -> [Command; 8] {
+fn with_number(number: u64) -> [Command; 9] {
     [
         start(number, 0, 200, -1000, 1000),
         start(3, number, 200, -1000, 1000),
@@ -151,7 +165,24 @@ fn with_number(number: u64) -> [Command; 8] {
         reply(number, 1, -1000, 1000),
         reply(4, number, -1000, 1000),
         Command::Drop { peer: number },
+        window(number, Date::FIRST, Date::LAST),
     ]
+}
+
+/// The windows that have this number at one place of one of their dates, also
+/// with a bit above its lowest 8, 16 or 32.
+fn with_number_of_a_date(number: u64) -> Vec<Command> {
+    let mut windows = Vec::new();
+    for place in 0..6 {
+        for above in [0, 1 << 8, 1 << 16, 1 << 32] {
+            let number = number | above;
+            let start = Date::FIRST.with(place, number);
+            let end = Date::LAST.with(place, number);
+            windows.push(window(0, start, Date::LAST));
+            windows.push(window(15, Date::FIRST, end));
+        }
+    }
+    windows
 }
 
 /// The commands that have these edges.
@@ -202,7 +233,7 @@ fn write_and_read(
 fn random_command(random: &mut Random) -> Command {
     let peer = number(random, 0, PEERS as u64 - 1);
     let (first, second) = edges(random);
-    match random.below(16) {
+    match random.below(20) {
         0..=4 => {
             let rule = number(random, 0, 1);
             let claim = number(random, 0, u64::from(LAST_CLAIM));
@@ -218,8 +249,28 @@ fn random_command(random: &mut Random) -> Command {
         }
         13 => Command::Drop { peer },
         14 => Command::Read,
-        _ => Command::Waiting,
+        15 => Command::Waiting,
+        _ => random_window(random),
     }
+}
+
+/// Mostly a window that can be one.
+fn random_window(random: &mut Random) -> Command {
+    let slot = number(random, 0, SLOTS as u64 - 1);
+    let one = if random.one_in(4) {
+        random_six(random)
+    } else {
+        some_date(random)
+    };
+    let other = match random.below(10) {
+        0 => one,
+        1..=2 => random_six(random),
+        _ => some_date(random),
+    };
+    if random.one_in(8) {
+        return window(slot, one, other);
+    }
+    window(slot, one.min(other), one.max(other))
 }
 
 /// Mostly a number from `first` through `last`, of any count of digits.

@@ -7,7 +7,8 @@ use crate::tally::print_numbers;
 
 /// The numbers that a line can be given in a run. The program lends enough
 /// output for every line, and a run that spends all tags would be too long.
-const NUMBERS: usize = 9;
+const NUMBERS: [u8; 11] = [0, 1, 2, 3, 4, 5, 6, 7, 8, 11, 12];
+const MOST: usize = 12;
 
 #[derive(Default)]
 pub struct ProgramTally {
@@ -16,7 +17,7 @@ pub struct ProgramTally {
     pieces: usize,
     bytes_read: usize,
     bytes_written: usize,
-    lines: [u64; NUMBERS],
+    lines: [u64; MOST + 1],
     failed_reads: u64,
     failed_writes: u64,
     signals: u64,
@@ -74,10 +75,10 @@ impl ProgramTally {
 
     /// The numbers that less than `enough` lines were given.
     pub fn missing(&self, enough: u64) -> Vec<String> {
-        let counts = self.lines.iter().enumerate();
-        counts
-            .filter(|(_, &count)| count < enough)
-            .map(|(number, _)| format!("the program gave {number} less than {enough} times"))
+        NUMBERS
+            .iter()
+            .filter(|&&number| self.lines[usize::from(number)] < enough)
+            .map(|number| format!("the program gave {number} less than {enough} times"))
             .collect()
     }
 }

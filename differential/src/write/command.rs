@@ -2,7 +2,8 @@
 
 use std::fmt;
 
-use crate::limits::{LAST_CLAIM, LAST_MOMENT, LAST_PASS, LAST_TAG, PEERS};
+use crate::date::Date;
+use crate::limits::{LAST_CLAIM, LAST_MOMENT, LAST_PASS, LAST_TAG, PEERS, SLOTS};
 
 /// Any numbers will do. The rule is 0 for im and 1 for mm.
 #[derive(Clone, Copy)]
@@ -31,11 +32,29 @@ pub enum Command {
     },
     Read,
     Waiting,
+    Window {
+        slot: u64,
+        start: Date,
+        end: Date,
+    },
 }
 
 impl Command {
-    /// Whether every number is within its range and the edges are in order.
-    pub fn is_allowed(&self) -> bool {
+    /// The number that is returned for it if the output is long enough.
+    pub fn number(&self) -> u8 {
+        if !self.is_allowed() {
+            return 2;
+        }
+        match *self {
+            Command::Window { start, end, .. } if !start.exists() || !end.exists() => 11,
+            Command::Window { start, end, .. } if end <= start => 12,
+            _ => 0,
+        }
+    }
+
+    /// Whether every number, but those of dates, is within its range and the
+    /// edges are in order.
+    fn is_allowed(&self) -> bool {
         match *self {
             Command::Start {
                 board,
@@ -62,6 +81,7 @@ impl Command {
                     && are_edges(trailing, leading)
             }
             Command::Read | Command::Waiting => true,
+            Command::Window { slot, .. } => slot < SLOTS as u64,
         }
     }
 
@@ -98,6 +118,11 @@ impl Command {
             },
             Command::Drop { peer } => Command::Drop { peer: cut(peer) },
             Command::Read | Command::Waiting => self,
+            Command::Window { slot, start, end } => Command::Window {
+                slot: cut(slot),
+                start: start.cut(bits),
+                end: end.cut(bits),
+            },
         }
     }
 }
@@ -140,6 +165,7 @@ impl fmt::Display for Command {
             Command::Drop { peer } => write!(f, "(drop {peer})"),
             Command::Read => write!(f, "(read)"),
             Command::Waiting => write!(f, "(waiting)"),
+            Command::Window { slot, start, end } => write!(f, "(window {slot} ({start} {end}))"),
         }
     }
 }

@@ -29,10 +29,8 @@ impl Test {
         );
         let number = if out_length < SHORTEST_OUTPUT {
             10
-        } else if command.is_allowed() {
-            0
         } else {
-            2
+            command.number()
         };
         let line = command.to_string();
         let found = outcome
@@ -109,6 +107,9 @@ fn by_library(command: Command, out: &mut [u8]) -> Returned {
         Command::Drop { peer } => library::write_drop(out, peer),
         Command::Read => library::write_read(out),
         Command::Waiting => library::write_waiting(out),
+        Command::Window { slot, start, end } => {
+            library::write_window(out, slot, &start.to_library(), &end.to_library())
+        }
     };
     returned.into()
 }
@@ -133,6 +134,9 @@ fn by_independent(command: Command, out: &mut [u8]) -> Returned {
         Command::Drop { peer } => independent::write_drop(out, peer),
         Command::Read => independent::write_read(out),
         Command::Waiting => independent::write_waiting(out),
+        Command::Window { slot, start, end } => {
+            independent::write_window(out, slot, start.0, end.0)
+        }
     };
     written.into()
 }

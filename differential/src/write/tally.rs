@@ -1,10 +1,10 @@
 //! What the calls that write a line have counted.
 
 use super::Command;
-use crate::tally::{print_numbers, seldom, Numbers};
+use crate::tally::{print_numbers, seldom, Numbers, WIDTHS};
 
 /// The call for each form, with the numbers that it can return.
-const FORMS: [(&str, &[u8]); 7] = [
+const FORMS: [(&str, &[u8]); 8] = [
     ("boardtime_write_start", &[0, 2, 10]),
     ("boardtime_write_pass", &[0, 2, 10]),
     ("boardtime_write_request", &[0, 2, 10]),
@@ -12,17 +12,20 @@ const FORMS: [(&str, &[u8]); 7] = [
     ("boardtime_write_drop", &[0, 2, 10]),
     ("boardtime_write_read", &[0, 10]),
     ("boardtime_write_waiting", &[0, 10]),
+    ("boardtime_write_window", &[0, 2, 10, 11, 12]),
 ];
-const PLAIN_NUMBERS: [u8; 4] = [0, 1, 2, 10];
+const PLAIN_NUMBERS: [u8; 6] = [0, 1, 2, 10, 11, 12];
 
-/// Widths that a number could be cut to.
-const WIDTHS: [u32; 3] = [8, 16, 32];
+/// The numbers of a refusal that numbers which are cut would not meet, with what
+/// these are numbers of.
+const CUT: [(u8, &str); 2] = [(2, "commands"), (11, "dates of windows")];
 
 pub struct WriteTally {
     forms: [Numbers; FORMS.len()],
     plain: Numbers,
-    /// Refused commands whose lower bits alone would be allowed, by the width.
-    cut: [u64; WIDTHS.len()],
+    /// Refused commands whose lower bits alone would be allowed, by the refusal
+    /// and the width.
+    cut: [[u64; WIDTHS.len()]; CUT.len()],
 }
 
 impl WriteTally {
@@ -30,17 +33,31 @@ impl WriteTally {
         WriteTally {
             forms: [[0; 256]; FORMS.len()],
             plain: [0; 256],
-            cut: [0; WIDTHS.len()],
+            cut: [[0; WIDTHS.len()]; CUT.len()],
         }
     }
 
     pub fn command(&mut self, command: &Command, number: u8) {
         self.forms[form(command)][usize::from(number)] += 1;
-        for (width, count) in WIDTHS.iter().zip(&mut self.cut) {
-            if number == 2 && command.cut(*width).is_allowed() {
-                *count += 1;
+        for ((refusal, _), counts) in CUT.iter().zip(&mut self.cut) {
+            for (width, count) in WIDTHS.iter().zip(counts) {
+                if number == *refusal && command.cut(*width).number() == 0 {
+                    *count += 1;
+                }
             }
         }
+    }
+
+    /// The counts of what would be allowed if it were cut, in words.
+    fn cut(&self) -> Vec<(String, u64)> {
+        let mut cut = Vec::new();
+        for ((_, what), counts) in CUT.iter().zip(&self.cut) {
+            for (width, &count) in WIDTHS.iter().zip(counts) {
+                let words = format!("{what} whose lower {width} bits would be allowed");
+                cut.push((words, count));
+            }
+        }
+        cut
     }
 
     pub fn plain(&mut self, number: u8) {
@@ -61,8 +78,8 @@ impl WriteTally {
         for ((name, _), counts) in FORMS.iter().zip(&self.forms) {
             print_numbers(name, counts);
         }
-        for (width, count) in WIDTHS.iter().zip(&self.cut) {
-            println!("  numbers whose lower {width} bits would be allowed: {count} times");
+        for (words, count) in self.cut() {
+            println!("  {words}: {count} times");
         }
         print_numbers("boardtime_plain", &self.plain);
     }
@@ -72,11 +89,9 @@ impl WriteTally {
         for ((name, numbers), counts) in FORMS.iter().zip(&self.forms) {
             missing.extend(seldom(enough, name, numbers, counts));
         }
-        for (width, count) in WIDTHS.iter().zip(&self.cut) {
-            if *count < enough {
-                missing.push(format!(
-                    "less than {enough} commands whose lower {width} bits would be allowed"
-                ));
+        for (words, count) in self.cut() {
+            if count < enough {
+                missing.push(format!("less than {enough} {words}"));
             }
         }
         missing
@@ -93,5 +108,6 @@ fn form(command: &Command) -> usize {
         Command::Drop { .. } => 4,
         Command::Read => 5,
         Command::Waiting => 6,
+        Command::Window { .. } => 7,
     }
 }

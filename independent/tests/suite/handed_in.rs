@@ -23,7 +23,14 @@ fn check(valid: bool, change: impl Fn(&mut Keeper)) {
     change(&mut keeper);
     assert_eq!(keeper.counts_as_started(), valid, "{keeper:?}");
 
-    for line in ["(pass 1)", "(request 9)", "(read)", "(waiting)", "(drop 5)"] {
+    for line in [
+        "(pass 1)",
+        "(request 9)",
+        "(read)",
+        "(waiting)",
+        "(drop 5)",
+        "(window 0 (1900-01-01T00:00:00 2099-12-31T23:59:59))",
+    ] {
         if !valid {
             assert_eq!(ask(&mut keeper, line), "(no 3)", "{line}");
         }

@@ -48,6 +48,7 @@ fn allowed_numbers() {
         Order::Drop(0),
         Order::Read,
         Order::Waiting,
+        Order::Window(15, [1900, 1, 1, 0, 0, 0], [2099, 12, 31, 23, 59, 59]),
     ] {
         on_every_length(|out| order.write(out), Ok(&order.line()));
     }
@@ -74,8 +75,27 @@ fn number_10_comes_before_number_2() {
 }
 
 #[test]
+fn number_10_comes_before_the_numbers_of_a_window() {
+    let (date, none) = ([2000, 1, 1, 0, 0, 0], [0; 6]);
+    for (order, number) in [
+        (Order::Window(16, date, date), 2),
+        (Order::Window(u64::MAX, none, none), 2),
+        (Order::Window(0, none, date), 11),
+        (Order::Window(0, date, none), 11),
+        (Order::Window(0, date, date), 12),
+    ] {
+        on_every_length(|out| order.write(out), Err(number));
+    }
+}
+
+#[test]
 fn plain_on_every_length() {
-    for line in ["(start 3 im 200 (-1000 1000))", "(pass 5)", "(waiting)"] {
+    for line in [
+        "(start 3 im 200 (-1000 1000))",
+        "(pass 5)",
+        "(waiting)",
+        "(window 3 (1999-12-31T23:59:59 2000-01-01T00:00:00))",
+    ] {
         on_every_length(|out| plain(line.as_bytes(), out), Ok(line));
     }
     let long = " ".repeat(121);
@@ -86,6 +106,10 @@ fn plain_on_every_length() {
         (&long, 1),
         ("(pass 86400001)", 2),
         ("(reply 1 1 (1 0))", 2),
+        ("(window 3 (2000-01-01T00:00:00 2000-01-01T00:00))", 1),
+        ("(window 16 (2000-01-01T00:00:60 2000-01-01T00:00:00))", 2),
+        ("(window 3 (2000-01-01T00:00:60 2000-01-01T00:00:00))", 11),
+        ("(window 3 (2000-01-01T00:00:01 2000-01-01T00:00:00))", 12),
     ] {
         on_every_length(|out| plain(line.as_bytes(), out), Err(number));
     }

@@ -1,6 +1,7 @@
 //! Tests of the time keeper against the specification.
 
 mod caller;
+mod dates;
 mod examples;
 mod handed_in;
 mod images;
@@ -16,5 +17,6 @@ mod reference;
 mod refusals;
 mod round_trips;
 mod shapes;
+mod windows;
 mod written_forms;
 mod written_limits;

@@ -3,10 +3,11 @@
 
 use independent::{
     plain, write_drop, write_pass, write_read, write_reply, write_request, write_start,
-    write_waiting, Written,
+    write_waiting, write_window, Written,
 };
 
 use crate::caller::UNTOUCHED;
+use crate::reference::{number_of_window, text_of_date};
 
 /// Last moment of the range.
 pub const END: i64 = 4_000_000_000_000_000_000;
@@ -24,6 +25,7 @@ pub enum Order {
     Drop(u64),
     Read,
     Waiting,
+    Window(u64, [u64; 6], [u64; 6]),
 }
 
 impl Order {
@@ -41,11 +43,27 @@ impl Order {
             Order::Drop(peer) => write_drop(out, peer),
             Order::Read => write_read(out),
             Order::Waiting => write_waiting(out),
+            Order::Window(slot, start, end) => write_window(out, slot, start, end),
         }
     }
 
-    /// Whether every number is in its range, straight from the specification.
+    /// The number of the call, straight from the specification.
+    pub fn number(self) -> u8 {
+        if let Order::Window(slot, start, end) = self {
+            number_of_window(i128::from(slot), start, end)
+        } else if self.is_in_range() {
+            0
+        } else {
+            2
+        }
+    }
+
     pub fn is_allowed(self) -> bool {
+        self.number() == 0
+    }
+
+    /// Whether every number of a command without dates is in its range.
+    fn is_in_range(self) -> bool {
         let edges = |first: i64, second: i64| -END <= first && first <= second && second <= END;
         match self {
             Order::Start(board, rule, claim, lower, upper) => {
@@ -57,6 +75,7 @@ impl Order {
                 peer <= 15 && (1..=16_777_215).contains(&tag) && edges(trailing, leading)
             }
             Order::Read | Order::Waiting => true,
+            Order::Window(..) => unreachable!(),
         }
     }
 
@@ -75,6 +94,10 @@ impl Order {
             Order::Drop(peer) => format!("(drop {peer})"),
             Order::Read => "(read)".into(),
             Order::Waiting => "(waiting)".into(),
+            Order::Window(slot, start, end) => {
+                let (start, end) = (text_of_date(start), text_of_date(end));
+                format!("(window {slot} ({start} {end}))")
+            }
         }
     }
 }
@@ -182,6 +205,39 @@ pub const TAGS: [u64; 9] = [
     u64::MAX,
 ];
 
+/// Dates that exist, in order, and others. Some of the others would exist if a
+/// field were cut to 8, 16 or 32 bits, or to its width.
+pub const DATES: [[u64; 6]; 28] = [
+    [1900, 1, 1, 0, 0, 0],
+    [1900, 2, 28, 23, 59, 59],
+    [1900, 3, 1, 0, 0, 0],
+    [1999, 12, 31, 23, 59, 59],
+    [2000, 1, 1, 0, 0, 0],
+    [2000, 2, 29, 12, 30, 45],
+    [2026, 9, 8, 7, 6, 5],
+    [2099, 12, 31, 23, 59, 59],
+    [1899, 12, 31, 23, 59, 59],
+    [2100, 1, 1, 0, 0, 0],
+    [0, 1, 1, 0, 0, 0],
+    [9999, 12, 31, 23, 59, 59],
+    [12_000, 1, 1, 0, 0, 0],
+    [65_536 + 2000, 1, 1, 0, 0, 0],
+    [(1 << 32) + 2000, 1, 1, 0, 0, 0],
+    [u64::MAX, 1, 1, 0, 0, 0],
+    [1900, 2, 29, 0, 0, 0],
+    [2000, 2, 30, 0, 0, 0],
+    [2000, 0, 1, 0, 0, 0],
+    [2000, 13, 1, 0, 0, 0],
+    [2000, 256 + 1, 1, 0, 0, 0],
+    [2000, 1, 0, 0, 0, 0],
+    [2000, 1, 100 + 1, 0, 0, 0],
+    [2000, 1, 1, 24, 0, 0],
+    [2000, 1, 1, 256, 0, 0],
+    [2000, 1, 1, 0, 60, 0],
+    [2000, 1, 1, 0, 0, 60],
+    [2000, 1, 1, 0, 0, u64::MAX],
+];
+
 /// Every pair of the edges above.
 pub fn edge_pairs() -> impl Iterator<Item = (i64, i64)> {
     EDGES
@@ -196,6 +252,11 @@ pub fn samples() -> Vec<Order> {
     orders.extend(TICKS.map(Order::Pass));
     orders.extend(BOARDS.map(Order::Request));
     orders.extend(BOARDS.map(Order::Drop));
+    for start in DATES {
+        for end in DATES {
+            orders.extend(BOARDS.map(|slot| Order::Window(slot, start, end)));
+        }
+    }
     for (first, second) in edge_pairs() {
         for board in BOARDS {
             orders.extend(RULES.map(|rule| Order::Start(board, rule, 200, first, second)));

@@ -8,8 +8,9 @@ use crate::random::{random_line, Random};
 use crate::reference::number_of;
 
 /// Checks one line against the second reading of lines, and against what a
-/// fresh keeper answers: it refuses what is no command with number 1 or 2, and
-/// every command but a start with number 3. Returns the number of `plain`.
+/// fresh keeper answers: it refuses what is no command with number 1, 2, 11 or
+/// 12, and every command but a start with number 3. Returns the number of
+/// `plain`.
 fn check(line: &[u8]) -> u8 {
     let spelled = spelled(line);
     let number = match &spelled {
@@ -30,7 +31,7 @@ fn check(line: &[u8]) -> u8 {
     number
 }
 
-const COMMANDS: [&str; 8] = [
+const COMMANDS: [&str; 10] = [
     "(start 3 im 200 (-1000 1000))",
     "(start 15 mm 50000 (-5 2))",
     "(pass 86400000)",
@@ -39,7 +40,24 @@ const COMMANDS: [&str; 8] = [
     "(drop 0)",
     "(read)",
     "(waiting)",
+    "(window 7 (1999-12-31T23:59:58 1999-12-31T23:59:59))",
+    "(window 15 (2000-02-29T00:00:00 2010-10-20T10:20:30))",
 ];
+
+/// How often each number was returned by `plain`.
+struct Seen([u32; 13]);
+
+impl Seen {
+    fn check(&mut self, line: &[u8]) {
+        self.0[usize::from(check(line))] += 1;
+    }
+
+    fn assert_all(&self) {
+        for (number, least) in [(0, 100), (1, 100), (2, 100), (11, 100), (12, 50)] {
+            assert!(self.0[number] > least, "{number}: {:?}", self.0);
+        }
+    }
+}
 
 #[test]
 fn commands_come_back_byte_for_byte() {
@@ -106,8 +124,23 @@ fn number_2() {
 }
 
 #[test]
+fn numbers_11_and_12() {
+    for (line, number) in [
+        ("(window 0 (2000-02-30T00:00:00 2001-01-01T00:00:00))", 11),
+        ("(window 0 (2000-01-01T00:00:00 2100-01-01T00:00:00))", 11),
+        ("(window 0 (2100-01-01T00:00:00 2000-01-01T00:00:00))", 11),
+        ("(window 0 (2000-01-01T00:00:00 2000-01-01T00:00:00))", 12),
+        ("(window 0 (2000-01-01T00:00:01 2000-01-01T00:00:00))", 12),
+    ] {
+        assert_eq!(check(line.as_bytes()), number, "{line:?}");
+    }
+}
+
+#[test]
 fn number_1_comes_before_number_2() {
     for line in [
+        "(window 16 (2000-01-01T00:00:00 2000-01-01T00:00:0))",
+        "(window 16 (2000-13-01T00:00:00 2000-01-01T00:00:00) )",
         "(pass 86400001 )",
         "(start 16 xx 0 (0 0))",
         "(start 16 im 50001 (2 1)))",
@@ -147,35 +180,35 @@ fn long_lines() {
 
 #[test]
 fn every_change_of_one_byte() {
-    let mut seen = [0; 3];
+    let mut seen = Seen([0; 13]);
     for line in COMMANDS {
         let line = line.as_bytes();
         for place in 0..line.len() {
             let mut shorter = line.to_vec();
             shorter.remove(place);
-            seen[usize::from(check(&shorter))] += 1;
+            seen.check(&shorter);
             for byte in 0..=255 {
                 let mut other = line.to_vec();
                 other[place] = byte;
-                seen[usize::from(check(&other))] += 1;
+                seen.check(&other);
                 let mut longer = line.to_vec();
                 longer.insert(place, byte);
-                seen[usize::from(check(&longer))] += 1;
+                seen.check(&longer);
             }
         }
     }
-    assert!(seen.iter().all(|&count| count > 100), "{seen:?}");
+    seen.assert_all();
 }
 
 #[test]
 fn random_lines() {
     let mut random = Random(0x1357_9BDF_0246_8ACE);
-    let mut seen = [0; 3];
+    let mut seen = Seen([0; 13]);
     for _ in 0..50_000 {
         let line = random_line(&mut random);
-        seen[usize::from(check(&line))] += 1;
+        seen.check(&line);
     }
-    assert!(seen.iter().all(|&count| count > 100), "{seen:?}");
+    seen.assert_all();
     for _ in 0..10_000 {
         let length = random.below(130) as usize;
         let line: Vec<u8> = (0..length).map(|_| random.next() as u8).collect();

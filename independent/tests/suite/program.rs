@@ -45,6 +45,20 @@ fn the_whole_run() {
 }
 
 #[test]
+fn windows() {
+    assert_run(
+        b"(window 4 (2000-01-01T00:00:00 2000-01-01T00:00:01))\n\
+        (start 3 im 0 (0 0))\n\
+        (window 4 (2000-01-01T00:00:00 2000-01-01T00:00:01))\n\
+        (window 4 (1999-12-31T23:59:59 2000-01-01T00:00:00))\n\
+        (window 4 (2000-02-30T00:00:00 2000-03-01T00:00:00))\n\
+        (window 4 (2000-03-01T00:00:00 2000-03-01T00:00:00))\n\
+        (window 16 (2000-03-01T00:00:00 2000-03-01T00:00:00))\n",
+        "(no 3)\n(started 3)\n(open 4)\n(shut 4)\n(no 11)\n(no 12)\n(no 2)\n",
+    );
+}
+
+#[test]
 fn empty_and_unfinished_lines() {
     assert_run(b"", "");
     assert_run(b"\n", "(no 1)\n");

@@ -36,15 +36,19 @@ pub fn random_line(random: &mut Random) -> Vec<u8> {
             "(drop 4)",
             "(read)",
             "(waiting)",
+            "(window 9 (1999-12-31T23:59:58 2000-01-01T00:00:00))",
+            "(window 0 (2000-02-29T00:00:00 2000-02-29T00:00:01))",
         ])
         .as_bytes()
         .to_vec();
     for _ in 0..random.below(4) {
         let place = random.below(line.len() as u64) as usize;
-        match random.below(4) {
-            0 => line[place] = random.pick(b"() -0123456789asimx"),
-            1 => line.insert(place, random.pick(b"() -0123456789asimx")),
+        match random.below(6) {
+            0 => line[place] = random.pick(b"() -0123456789asimxT:"),
+            1 => line.insert(place, random.pick(b"() -0123456789asimxT:")),
             2 => line[place] = random.next() as u8,
+            // Another digit keeps the shape of a date.
+            3 | 4 if line[place].is_ascii_digit() => line[place] = random.pick(b"0123456789"),
             _ => {
                 line.remove(place);
                 line.push(b')');

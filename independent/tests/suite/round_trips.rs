@@ -8,6 +8,7 @@ use independent::{Keeper, Rule};
 use crate::caller::ask;
 use crate::order::{samples, spelled, written, Order, END};
 use crate::random::Random;
+use crate::reference::moment;
 
 /// A keeper of another board than `peer`, with edges that cover the range.
 fn wide(peer: u64) -> Keeper {
@@ -37,6 +38,7 @@ fn check_reading(order: Order, line: &str) {
         Order::Drop(peer) => (waiting_for(peer, 1), format!("(dropped {peer})")),
         Order::Read => (wide(0), format!("(time ({} {END}) (0 {END}) 0 0)", -END)),
         Order::Waiting => (waiting_for(5, 9), "(waiting (5 9))".into()),
+        Order::Window(slot, start, end) => return check_window(slot, start, end, line),
     };
     assert_eq!(ask(&mut keeper, line), answer, "{line}");
     if let Order::Start(board, rule, claim, lower, upper) = order {
@@ -50,6 +52,21 @@ fn check_reading(order: Order, line: &str) {
             ..Keeper::fresh()
         };
         assert_eq!(keeper, expected);
+    }
+}
+
+/// Four single moments beside the ends of the window tell both of them.
+fn check_window(slot: u64, start: [u64; 6], end: [u64; 6], line: &str) {
+    let (start, end) = (moment(start), moment(end));
+    for (edge, word) in [
+        (start - 1, "shut"),
+        (start, "open"),
+        (end - 1, "open"),
+        (end, "shut"),
+    ] {
+        let mut keeper = wide(0);
+        (keeper.lower, keeper.upper) = (edge, edge);
+        assert_eq!(ask(&mut keeper, line), format!("({word} {slot})"), "{line}");
     }
 }
 
@@ -73,16 +90,41 @@ fn random_edges(random: &mut Random) -> (i64, i64) {
     (first.min(second), first.max(second))
 }
 
+/// A random date. No month has fewer than 28 days.
+fn random_date(random: &mut Random) -> [u64; 6] {
+    [
+        1900 + random.below(200),
+        1 + random.below(12),
+        1 + random.below(28),
+        random.below(24),
+        random.below(60),
+        random.below(60),
+    ]
+}
+
+/// A random window. Its dates have the same fields up to a random one.
+fn random_window(random: &mut Random) -> Order {
+    let slot = random.below(16);
+    let (first, mut second) = (random_date(random), random_date(random));
+    let same = random.below(6) as usize;
+    second[..same].copy_from_slice(&first[..same]);
+    if first == second {
+        return Order::Window(slot, first, [2099, 12, 31, 23, 59, 59]);
+    }
+    Order::Window(slot, first.min(second), first.max(second))
+}
+
 /// A random command with numbers in their ranges.
 fn random_order(random: &mut Random) -> Order {
     let (first, second) = random_edges(random);
     let board = random.below(16);
-    match random.below(6) {
+    match random.below(8) {
         0 | 1 => Order::Start(board, random.below(2), random.below(50_001), first, second),
         2 => Order::Pass(random.below(86_400_001)),
         3 => Order::Request(board),
         4 => Order::Reply(board, random.below(16_777_215) + 1, first, second),
-        _ => Order::Drop(board),
+        5 => Order::Drop(board),
+        _ => random_window(random),
     }
 }
 
@@ -116,6 +158,7 @@ fn every_small_number() {
             Order::Drop(board),
             Order::Start(board, 1, 0, -7, 7),
             Order::Reply(board, 12, -7, 7),
+            Order::Window(board, [2000, 1, 1, 0, 0, 0], [2000, 1, 1, 0, 0, 1]),
         ] {
             check_reading(order, &written(order).expect("a line"));
         }

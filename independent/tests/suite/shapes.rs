@@ -68,6 +68,7 @@ fn every_cut_of_a_command_and_every_added_byte() {
         "(drop 1)",
         "(read)",
         "(waiting)",
+        "(window 1 (1999-12-31T23:59:59 2000-01-01T00:00:00))",
     ] {
         let bytes = line.as_bytes();
         assert!(!ask(&mut base.clone(), bytes).starts_with("(no"));

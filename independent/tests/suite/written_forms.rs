@@ -21,6 +21,14 @@ fn every_form() {
         (Order::Drop(12), "(drop 12)"),
         (Order::Read, "(read)"),
         (Order::Waiting, "(waiting)"),
+        (
+            Order::Window(0, [1900, 1, 1, 0, 0, 0], [2099, 12, 31, 23, 59, 59]),
+            "(window 0 (1900-01-01T00:00:00 2099-12-31T23:59:59))",
+        ),
+        (
+            Order::Window(15, [2001, 2, 3, 4, 5, 6], [2001, 2, 3, 4, 5, 7]),
+            "(window 15 (2001-02-03T04:05:06 2001-02-03T04:05:07))",
+        ),
     ] {
         assert_eq!(written(order).as_deref(), Ok(line));
     }
@@ -45,18 +53,20 @@ fn every_count_of_digits() {
 
 #[test]
 fn all_samples() {
-    let mut counts = [0, 0];
+    let mut counts = [0; 13];
     for order in samples() {
-        let expected = if order.is_allowed() {
-            counts[0] += 1;
+        let number = order.number();
+        counts[usize::from(number)] += 1;
+        let expected = if number == 0 {
             Ok(order.line())
         } else {
-            counts[1] += 1;
-            Err(2)
+            Err(number)
         };
         assert_eq!(written(order), expected, "{order:?}");
     }
-    assert!(counts.iter().all(|&count| count > 1000), "{counts:?}");
+    for (number, least) in [(0, 1000), (2, 1000), (11, 1000), (12, 100)] {
+        assert!(counts[number] > least, "{number}: {counts:?}");
+    }
 }
 
 #[test]

@@ -1,7 +1,8 @@
 //! Last allowed and first refused values of every number of a command that is
 //! written.
 
-use crate::order::{written, Order, END};
+use crate::order::{written, Order, DATES, END};
+use crate::reference::{exists, text_of_date};
 
 fn assert_allowed(order: Order, line: &str) {
     assert_eq!(written(order).as_deref(), Ok(line));
@@ -106,5 +107,45 @@ fn edges() {
     ] {
         assert_refused(Order::Start(0, 0, 0, first, second));
         assert_refused(Order::Reply(0, 1, first, second));
+    }
+}
+
+#[test]
+fn slot() {
+    let (start, end) = ([2000, 1, 1, 0, 0, 0], [2000, 1, 1, 0, 0, 1]);
+    for slot in [0, 15] {
+        assert_allowed(
+            Order::Window(slot, start, end),
+            &format!("(window {slot} (2000-01-01T00:00:00 2000-01-01T00:00:01))"),
+        );
+    }
+    for slot in [16, 255, 256, 65_536, 1 << 32, 1 << 63, u64::MAX] {
+        assert_refused(Order::Window(slot, start, end));
+        // Number 2 comes before numbers 11 and 12.
+        assert_refused(Order::Window(slot, [0; 6], end));
+        assert_refused(Order::Window(slot, start, [u64::MAX; 6]));
+        assert_refused(Order::Window(slot, start, start));
+    }
+}
+
+#[test]
+fn dates_of_a_window() {
+    let (first, last) = ([1900, 1, 1, 0, 0, 0], [2099, 12, 31, 23, 59, 59]);
+    for date in DATES {
+        // The end is not later than the start in two of the four; number 11
+        // comes before number 12.
+        let orders = [(first, date), (date, last), (date, first), (last, date)];
+        for (start, end) in orders {
+            let order = Order::Window(0, start, end);
+            let expected = if !exists(date) {
+                Err(11)
+            } else if start >= end {
+                Err(12)
+            } else {
+                let (start, end) = (text_of_date(start), text_of_date(end));
+                Ok(format!("(window 0 ({start} {end}))"))
+            };
+            assert_eq!(written(order), expected, "{order:?}");
+        }
     }
 }

@@ -54,6 +54,12 @@ waiting-line-requires c κs = search needs
 enum-known-answer-7 : tie.Need-enum-known-answer-7
 enum-known-answer-7 c = search needs
 
+heater-line-requires : tie.Need-heater-line-requires
+heater-line-requires c κs = search needs
+
+enum-known-answer-8 : tie.Need-enum-known-answer-8
+enum-known-answer-8 c = search needs
+
 put-refusal-requires : tie.Need-put-refusal-requires
 put-refusal-requires c κs = search needs
 
@@ -115,7 +121,13 @@ same-length-8 : tie.Need-same-length-8
 same-length-8 c = search needs
 
 returns-8 : tie.Need-returns-8
-returns-8 c = by-line (c .before .before .before .before .before .answer7 .given .1) refl (c .before .before .put-refusal .ensures)
+returns-8 c = by-line (c .before .before .before .before .before .answer7 .given .1) refl (c .before .before .heater-line .ensures)
+
+same-length-9 : tie.Need-same-length-9
+same-length-9 c = search needs
+
+returns-9 : tie.Need-returns-9
+returns-9 c = by-line (c .before .before .before .before .before .answer8 .given .1) refl (c .before .before .put-refusal .ensures)
 
 pub put-answer-spec : {M : Type 1} → statement M
 put-answer-spec =
@@ -136,6 +148,8 @@ put-answer-spec =
     enum-told
     waiting-line-requires
     enum-known-answer-7
+    heater-line-requires
+    enum-known-answer-8
     put-refusal-requires
     same-length
     returns
@@ -152,4 +166,6 @@ put-answer-spec =
     same-length-7
     returns-7
     same-length-8
-    returns-8)
+    returns-8
+    same-length-9
+    returns-9)

@@ -42,6 +42,9 @@ enum-told-4 c = search needs
 enum-told-5 : tie.Need-enum-told-5
 enum-told-5 c = search needs
 
+enum-told-6 : tie.Need-enum-told-6
+enum-told-6 c = search needs
+
 same-length : tie.Need-same-length
 same-length c = search needs
 
@@ -81,6 +84,9 @@ returns-7 c = rw (c .enum-told4 .given .1)
 returns-8 : tie.Need-returns-8
 returns-8 c = rw (c .enum-told5 .given .1)
 
+returns-9 : tie.Need-returns-9
+returns-9 c = rw (c .enum-told6 .given .1)
+
 pub store-changes-spec : {M : Type 1} → statement M
 store-changes-spec =
     tie.close
@@ -98,6 +104,7 @@ store-changes-spec =
     enum-told-3
     enum-told-4
     enum-told-5
+    enum-told-6
     same-length
     returns
     same-length-2
@@ -110,4 +117,5 @@ store-changes-spec =
     returns-5
     returns-6
     returns-7
-    returns-8)
+    returns-8
+    returns-9)

@@ -25,6 +25,12 @@ bare-form-requires c κs = search needs
 enum-told : tie.Need-enum-told
 enum-told c = search needs
 
+window-form-requires : tie.Need-window-form-requires
+window-form-requires c κs = search needs
+
+enum-told-2 : tie.Need-enum-told-2
+enum-told-2 c = search needs
+
 returns : tie.Need-returns
 unfolding restOf
 returns c = rw (c .before .before .word .given .1) (c .edged-form .ensures)
@@ -39,7 +45,11 @@ returns-3 c = rw (c .before .before .word3 .given .1) (c .bare-form .ensures)
 
 returns-4 : tie.Need-returns-4
 unfolding restOf
-returns-4 c = rw (c .enum-told .given .1)
+returns-4 c = rw (c .before .enum-told .given .1) (c .window-form .ensures)
+
+returns-5 : tie.Need-returns-5
+unfolding restOf
+returns-5 c = rw (c .enum-told2 .given .1)
 
 pub parts-from-spec : {M : Type 1} → statement M
 parts-from-spec =
@@ -52,7 +62,10 @@ parts-from-spec =
     enum-known-word-3
     bare-form-requires
     enum-told
+    window-form-requires
+    enum-told-2
     returns
     returns-2
     returns-3
-    returns-4)
+    returns-4
+    returns-5)

@@ -67,6 +67,15 @@ enum-told-2 c = search needs
 write-waiting-requires : tie.Need-write-waiting-requires
 write-waiting-requires c κs = search needs
 
+enum-known-command-6 : tie.Need-enum-known-command-6
+enum-known-command-6 c = search needs
+
+cast-write-window : tie.Need-cast-write-window
+cast-write-window c = search needs
+
+write-window-requires : tie.Need-write-window-requires
+write-window-requires c κs = search needs
+
 same-length : tie.Need-same-length
 same-length c = search needs
 
@@ -109,6 +118,12 @@ same-length-7 c = search needs
 returns-7 : tie.Need-returns-7
 returns-7 c = command-written _ (c .before .before .before .before .enum-told2 .given .1) (c .before .before .write-waiting .ensures)
 
+same-length-8 : tie.Need-same-length-8
+same-length-8 c = search needs
+
+returns-8 : tie.Need-returns-8
+returns-8 c = command-written _ (c .before .before .before .before .before .command6 .given .1) (c .before .before .write-window .ensures)
+
 pub write-command-spec : {M : Type 1} → statement M
 write-command-spec =
     tie.close
@@ -134,6 +149,9 @@ write-command-spec =
     write-read-requires
     enum-told-2
     write-waiting-requires
+    enum-known-command-6
+    cast-write-window
+    write-window-requires
     same-length
     returns
     same-length-2
@@ -147,4 +165,6 @@ write-command-spec =
     same-length-6
     returns-6
     same-length-7
-    returns-7)
+    returns-7
+    same-length-8
+    returns-8)

@@ -30,6 +30,8 @@ const SHORT: &[&[u8]] = &[
     b"(start 3 im 200 (-1000 1000))\n(read)",
     b"(start 3 im 200 (-1000 1000))\n(read)\n\n",
     b"(start 3 im 200 (-1000 1000))\n(pass 1)\n(rea",
+    b"(start 3 im 200 (0 0))\n(window 3 (1999-12-31T23:59:59 2000-01-01T00:00:00))",
+    b"(start 3 im 200 (-1 -1))\n(window 3 (1999-12-31T23:59:59 2000-01-01T00:00:00))\n(rea",
     // The longest command, and a line that begins with it.
     b"(start 15 mm 50000 (-4000000000000000000 -3999999999999999999))",
     b"(start 15 mm 50000 (-4000000000000000000 -3999999999999999999))x\n(read)",

@@ -45,6 +45,12 @@ enum-told-2 c = search needs
 waiting-requires : tie.Need-waiting-requires
 waiting-requires c κs = search needs
 
+enum-known-command-6 : tie.Need-enum-known-command-6
+enum-known-command-6 c = search needs
+
+window-requires : tie.Need-window-requires
+window-requires c κs = search needs
+
 returns : tie.Need-returns
 returns c =
     rw (c .before .before .command .given .1) (c .start .ensures)
@@ -73,6 +79,10 @@ returns-7 : tie.Need-returns-7
 returns-7 c =
     rw (c .before .enum-told2 .given .1) (c .waiting .ensures)
 
+returns-8 : tie.Need-returns-8
+returns-8 c =
+    rw (c .before .before .command6 .given .1) (c .window .ensures)
+
 pub apply-command-spec : {M : Type 1} → statement M
 apply-command-spec =
     tie.close
@@ -91,10 +101,13 @@ apply-command-spec =
     read-requires
     enum-told-2
     waiting-requires
+    enum-known-command-6
+    window-requires
     returns
     returns-2
     returns-3
     returns-4
     returns-5
     returns-6
-    returns-7)
+    returns-7
+    returns-8)

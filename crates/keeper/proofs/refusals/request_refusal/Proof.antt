@@ -31,7 +31,7 @@ peer-refusal-requires c κs = search needs
 past-own : (c : tie.Else1) → refusal (stateOf (c .before .before .args .keeper)) (C.Request (c .before .before .args .peer)) ≡ first (keeperCauses (stateOf (c .before .before .args .keeper)) (C.Request (c .before .before .args .peer)))
 unfolding refusal causes
 past-own c =
-    own-past _ (C.Request (c .before .before .args .peer)) (sym (c .before .board-within .ensures) ∙ not-false _ (c .if1 .left))
+    own-past _ (C.Request (c .before .before .args .peer)) refl (sym (c .before .board-within .ensures) ∙ not-false _ (c .if1 .left))
 
 returns-2 : tie.Need-returns-2
 unfolding keeperCauses

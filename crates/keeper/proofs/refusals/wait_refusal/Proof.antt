@@ -46,7 +46,7 @@ small c =
 past-own : (c : tie.Else1) → first (ownCauses (C.Reply (c .before .before .args .peer) (c .before .before .args .tag) (c .before .before .args .edges)) ++ waitCauses (stateOf (c .before .before .args .keeper)) (c .before .before .args .peer) (c .before .before .args .tag)) ≡ first (waitCauses (stateOf (c .before .before .args .keeper)) (c .before .before .args .peer) (c .before .before .args .tag))
 past-own c =
     let x = c .before .before .args in
-    own-past _ (C.Reply (x .peer) (x .tag) (x .edges)) (kept c)
+    own-past _ (C.Reply (x .peer) (x .tag) (x .edges)) refl (kept c)
 
 returns-2 : tie.Need-returns-2
 returns-2 c =

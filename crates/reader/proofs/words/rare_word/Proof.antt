@@ -3,7 +3,7 @@ use mathlib.Core.Path.{_≡_, sym, _∙_}
 use mathlib.Core.List.{List}
 use Prim.Native.Nat.{ℕ}
 use lib.ListN.{drop}
-use Rattle.shapes.specs.Shapes.{bareShape, numberedShape, startShape}
+use Rattle.shapes.specs.Shapes.{bareShape, numberedShape}
 use Rattle.reader.specs.Reading.{rareShapes, wordOf}
 use Rattle.shapes.specs.declared.Numbered.the-variants as N
 use Rattle.shapes.specs.declared.Bare.the-variants as B
@@ -39,15 +39,6 @@ at-3 c = at-2 (c .before .before .before .before)
 
 left-3 : (c : tie.After-enum-told3) → wordOf rareShapes (line-3 c) (at-3 c) ≡ wordOf (drop 3 rareShapes) (line-3 c) (at-3 c)
 left-3 c = left-2 (c .before .before .before .before) ∙ word-passed _ _ _ _ (sym (c .before .before .word-at3 .ensures) ∙ c .enum-told3 .given .1)
-
-abbrev line-4 : tie.After-enum-told4 → List ℕ
-line-4 c = line-3 (c .before .before .before .before)
-
-abbrev at-4 : tie.After-enum-told4 → ℕ
-at-4 c = at-3 (c .before .before .before .before)
-
-left-4 : (c : tie.After-enum-told4) → wordOf rareShapes (line-4 c) (at-4 c) ≡ wordOf (drop 4 rareShapes) (line-4 c) (at-4 c)
-left-4 c = left-3 (c .before .before .before .before) ∙ word-passed _ _ _ _ (sym (c .before .before .word-at4 .ensures) ∙ c .enum-told4 .given .1)
 
 slice-aggregate-word-at : tie.Need-slice-aggregate-word-at
 slice-aggregate-word-at c = search needs
@@ -94,24 +85,11 @@ returns-3 c = sym (left-2 (c .before .before .before .before .before) ∙ word-t
 enum-told-3 : tie.Need-enum-told-3
 enum-told-3 c = search needs
 
-slice-aggregate-word-at-4 : tie.Need-slice-aggregate-word-at-4
-slice-aggregate-word-at-4 c = search needs
-
-word-at-requires-4 : tie.Need-word-at-requires-4
-word-at-requires-4 c κs = search needs
-
-enum-known-next-4 : tie.Need-enum-known-next-4
-enum-known-next-4 c = search needs
-
-enum-told-4 : tie.Need-enum-told-4
-enum-told-4 c = search needs
+last-word-requires : tie.Need-last-word-requires
+last-word-requires c κs = search needs
 
 returns-4 : tie.Need-returns-4
-unfolding wordOf
-returns-4 c = sym (left-4 c)
-
-returns-5 : tie.Need-returns-5
-returns-5 c = sym (left-3 (c .before .before .before .before .before) ∙ word-taken startShape (drop 4 rareShapes) _ _ _ (sym (c .before .before .before .word-at4 .ensures) ∙ c .before .next4 .given .1))
+returns-4 c = c .last-word .ensures ∙ sym (left-3 (c .before))
 
 pub rare-word-spec : {M : Type 1} → statement M
 rare-word-spec =
@@ -132,9 +110,5 @@ rare-word-spec =
     enum-known-next-3
     returns-3
     enum-told-3
-    slice-aggregate-word-at-4
-    word-at-requires-4
-    enum-known-next-4
-    enum-told-4
-    returns-4
-    returns-5)
+    last-word-requires
+    returns-4)

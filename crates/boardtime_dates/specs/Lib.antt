@@ -1,0 +1,2 @@
+-- What the contracts of `boardtime_dates` cite.
+pub mod Calls

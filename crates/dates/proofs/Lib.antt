@@ -1,0 +1,4 @@
+-- Laws about the definitions of specs/.
+pub mod DateLaws
+pub mod PlacedLaws
+pub mod FitLaws

@@ -1,0 +1,84 @@
+-- Laws of a window's line: its refusal by its span, the room for its parts, and dates that were cut to their fields.
+use mathlib.Core.Path.{_≡_, sym, ap, _∙_}
+use mathlib.Core.Bool.{Bool, true, false, _&&_}
+use mathlib.Core.List.{List}
+use Prim.Native.Nat.{ℕ, _+_, _≤_}
+use native.Mathlib.Omega.{arith}
+use borrow.Author.Tests.{eqb-true, ne-eqb}
+use lib.Dec.{eqb, ltb}
+use lib.ListN.{length}
+use Rattle.bits.specs.Choice.{choose}
+use Rattle.bits.proofs.Tests.{by-test, both}
+use Rattle.text.proofs.OutputLaws.{put-room, put-length}
+use Rattle.writing.specs.Puts.{Puts, leastOutput}
+use Rattle.moment.specs.declared.Interval.{Interval}
+use Rattle.calendar.specs.declared.Date.{Date}
+use Rattle.calendar.specs.Calendar.{exists}
+use Rattle.calendar.specs.Conversion.{Narrows}
+use Rattle.command.specs.Forms.{window}
+use Rattle.command.specs.Limits.{slotWithin}
+use Rattle.command.specs.Causes.{Cause, first, formCauses}
+use Rattle.command.specs.Windows.{spanOf, windowSpan}
+use Rattle.command.specs.declared.windows.WindowSpan.{WindowSpan}
+use Rattle.command.specs.declared.windows.WindowSpan.the-variants as S
+use Rattle.form_lines.specs.Written.{writeRefusal, writes, writtenForm}
+
+-- ---- the first cause, by the span
+
+module _ (slot : ℕ) (begins ends : Date) where
+  pub span-uncaused : {s : Interval} → windowSpan slot begins ends ≡ S.Of s → first (formCauses (window slot begins ends)) ≡ 0
+  unfolding windowSpan
+  span-uncaused {s} h = go (first (formCauses (window slot begins ends))) h
+    where
+      go : (n : ℕ) → choose (eqb n 0) (λ _. S.Of (spanOf begins ends)) (λ _. S.Refused n) ≡ S.Of s → n ≡ 0
+      go n k = by-test (eqb n 0) (λ t. eqb-true n 0 t) (λ t. let e : _≡_ {A = WindowSpan} (S.Refused n) (S.Of s) = rw t at k in cc)
+
+  pub span-caused : {m : ℕ} → windowSpan slot begins ends ≡ S.Refused m → first (formCauses (window slot begins ends)) ≡ m
+  unfolding windowSpan
+  span-caused {m} h = go (first (formCauses (window slot begins ends))) h
+    where
+      go : (n : ℕ) → choose (eqb n 0) (λ _. S.Of (spanOf begins ends)) (λ _. S.Refused n) ≡ S.Refused m → n ≡ m
+      go n k =
+          by-test
+          (eqb n 0)
+          (λ t. let e : _≡_ {A = WindowSpan} (S.Of (spanOf begins ends)) (S.Refused m) = rw t at k in cc)
+          (λ t. let e : _≡_ {A = WindowSpan} (S.Refused n) (S.Refused m) = rw t at k in cc)
+
+-- ---- after parts that were put at the front, there is the room that they left
+
+pub front-room : {out s after : List ℕ} {n : ℕ} (k : ℕ) → Puts out 0 s after n → length s + k ≤ length out → n + k ≤ length after
+front-room {out} {s} {after} {n} k p h =
+    let room : 0 + length s ≤ length out = omega arith in
+    omega (arith, put-room {at = 0} room (p .put room) .1, put-length (p .put room))
+
+-- ---- dates whose numbers were cut to their fields
+
+-- where a cause of its own holds, the line does not matter, and of the causes only the first that holds does
+writes-caused : (causes others : List Cause) (line other out : List ℕ) → first causes ≡ first others → (first others ≡ 0 → ⊥)
+    → writes causes line out ≡ writes others other out
+unfolding writes writeRefusal first
+writes-caused causes others line other out same some =
+    by-test (ltb (length out) leastOutput) (λ t. rw t) (λ t. rw (t, same, ne-eqb (first others) 0 some))
+
+-- of a window with a date that does not exist the first cause is 2 or 11, by the slot alone
+undated-cause : (slot : ℕ) (begins ends : Date) → exists begins && exists ends ≡ false
+    → first (formCauses (window slot begins ends)) ≡ choose (slotWithin slot) (λ _. 11) (λ _. 2)
+unfolding first
+undated-cause slot begins ends h = rw h (by-test (slotWithin slot) (λ t. rw t) (λ t. rw t))
+
+some-cause : (t : Bool) → _≡_ {A = ℕ} (choose t (λ _. 11) (λ _. 2)) 0 → ⊥
+some-cause true e = omega (arith, e)
+some-cause false e = omega (arith, e)
+
+pub narrow-written : (slot : ℕ) (out : List ℕ) {b e d f : Date} → Narrows b d → Narrows e f → writtenForm (window slot d f) out ≡ writtenForm (window slot b e) out
+unfolding writtenForm
+narrow-written slot out {b} {e} {d} {f} p q =
+    by-test
+    (exists b && exists e)
+    (λ t.
+    let (x, y) = both (exists b) (exists e) t in
+    ap (λ (z : Date). writtenForm (window slot z f) out) (p .is x) ∙ ap (λ (z : Date). writtenForm (window slot b z) out) (q .is y))
+    (λ t.
+    let cut : exists d && exists f ≡ false = rw (p .same, q .same) t in
+    let wide = undated-cause slot b e t in
+    writes-caused _ _ _ _ out (undated-cause slot d f cut ∙ sym wide) (λ z. some-cause (slotWithin slot) (sym wide ∙ z)))
