@@ -264,8 +264,8 @@ uint32_t boardtime_write_read(uint8_t *out, size_t out_length);
 uint32_t boardtime_write_waiting(uint8_t *out, size_t out_length);
 
 /* `(window SLOT (DATE DATE))`: the slot is 0 to 15, and the end is later than
-   the start. The window holds the moment at which its start begins and not the
-   one at which its end does. */
+   the start. The window holds the first moment of its start's second, and not
+   that of its end's. */
 uint32_t boardtime_write_window(uint8_t *out, size_t out_length, uint64_t slot,
                                 const struct boardtime_date *start,
                                 const struct boardtime_date *end);

@@ -47,8 +47,8 @@ pub enum Command {
     /// `(waiting)`
     Waiting,
     /// `(window SLOT (DATE DATE))`: a slot of 0 to 15, an end later than the
-    /// start. The window holds the moment at which its start begins and not the
-    /// one at which its end does.
+    /// start. The window holds the first moment of its start's second, and not
+    /// that of its end's.
     Window { slot: u64, start: Date, end: Date },
 }
 

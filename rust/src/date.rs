@@ -1,4 +1,4 @@
-//! A date, and the moments that it stands for.
+//! A date, and its moment.
 
 use crate::dates;
 use crate::refusal::{self, Refusal};

@@ -15,8 +15,8 @@ use Rattle.numeral.proofs.Digits.{digits-most}
 use Rattle.moment.specs.declared.Interval.{Interval}
 use Rattle.rules.specs.declared.Finding.{Finding}
 use Rattle.rules.specs.declared.Finding.the-variants.{Conflict, Taken, Kept}
-use Rattle.rules.specs.declared.Window.{Window}
-use Rattle.rules.specs.declared.Window.the-variants.{Open, Shut, Unsure}
+use Rattle.rules.specs.declared.WindowState.{WindowState}
+use Rattle.rules.specs.declared.WindowState.the-variants.{Open, Shut, Unsure}
 use Rattle.writing.specs.Puts.{Puts, pair}
 use Rattle.writing.proofs.PutsLaws.{_then_}
 use Rattle.keeper.specs.declared.Answer.{Answer}
@@ -65,7 +65,7 @@ word-most Conflict = omega arith
 word-most Taken = omega arith
 word-most Kept = omega arith
 
-pub window-most : (w : Window) → length (windowWord w) ≤ 10
+pub window-most : (w : WindowState) → length (windowWord w) ≤ 10
 window-most Open = omega arith
 window-most Shut = omega arith
 window-most Unsure = omega arith

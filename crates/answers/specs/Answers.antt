@@ -12,8 +12,8 @@ use Rattle.numeral.specs.Digits.{digits}
 use Rattle.moment.specs.declared.Interval.{Interval}
 use Rattle.rules.specs.declared.Finding.{Finding}
 use Rattle.rules.specs.declared.Finding.the-variants.{Conflict, Taken, Kept}
-use Rattle.rules.specs.declared.Window.{Window}
-use Rattle.rules.specs.declared.Window.the-variants.{Open, Shut, Unsure}
+use Rattle.rules.specs.declared.WindowState.{WindowState}
+use Rattle.rules.specs.declared.WindowState.the-variants.{Open, Shut, Unsure}
 use Rattle.writing.specs.Puts.{pair}
 use Rattle.keeper.specs.declared.Keeper.{Keeper}
 use Rattle.keeper.specs.declared.Answer.{Answer}
@@ -30,7 +30,7 @@ findingWord Taken = bytes "(taken "
 findingWord Kept = bytes "(kept "
 
 -- '`(open SLOT)` .., `(shut SLOT)` .., and otherwise `(unsure SLOT)`': the bracket, the word and a space
-abbrev pub windowWord : Window → List ℕ
+abbrev pub windowWord : WindowState → List ℕ
 windowWord Open = bytes "(open "
 windowWord Shut = bytes "(shut "
 windowWord Unsure = bytes "(unsure "

@@ -106,9 +106,9 @@ pub extern "C" fn boardtime_write_window(
 ) -> u32
     ensures { λ r. ⌜ Returns (writtenForm (window slot (dateIn (now (start .entry))) (dateIn (now (end .entry)))) (now (out .entry))) r (now (out .exit)) ⌝ }
 {
-    let first = date_from(start[0], start[1], start[2], start[3], start[4], start[5]);
-    let last = date_from(end[0], end[1], end[2], end[3], end[4], end[5]);
-    let written = write_window(out, slot, first, last);
+    let start_date = date_from(start[0], start[1], start[2], start[3], start[4], start[5]);
+    let end_date = date_from(end[0], end[1], end[2], end[3], end[4], end[5]);
+    let written = write_window(out, slot, start_date, end_date);
     returned(written.number, written.length)
 }
 

@@ -12,7 +12,7 @@ use Rattle.moment.specs.Moment.{inRange}
 use Rattle.moment.proofs.Integers.{ints, sum}
 use Rattle.moment.proofs.IntervalLaws.{range-made}
 use Rattle.calendar.specs.declared.Date.{Date}
-use Rattle.calendar.specs.declared.Dated.{Dated}
+use Rattle.calendar.specs.declared.DateResult.{DateResult}
 use Rattle.calendar.specs.Calendar.{exists}
 use Rattle.calendar.specs.Conversion.{epoch, momentOf, FallsIn, inYears, IsDateOf, Earlier}
 use Rattle.calendar.proofs.YearLaws.{years-end}
@@ -71,13 +71,13 @@ has-date m = (λ e. some-date e, λ h. date-within (h .1) (h .2))
 pub own-second : (d : Date) → FallsIn (momentOf d) d
 own-second d = omega (ints, sum (momentOf d) (pos 1000000000))
 
-same-dated : {r s : Dated} → r .number ≡ s .number → r .date ≡ s .date → r ≡ s
+same-dated : {r s : DateResult} → r .number ≡ s .number → r .date ≡ s .date → r ≡ s
 same-dated {r} {s} n d =
-    let k : _≡_ {A = Dated} (record { number = r .number; date = r .date }) (record { number = s .number; date = s .date }) = cc in
+    let k : _≡_ {A = DateResult} (record { number = r .number; date = r .date }) (record { number = s .number; date = s .date }) = cc in
     k
 
 -- the contract of `date_of` leaves one answer
-pub date-of-one : {m : ℤ} {r s : Dated} → IsDateOf m r → IsDateOf m s → r ≡ s
+pub date-of-one : {m : ℤ} {r s : DateResult} → IsDateOf m r → IsDateOf m s → r ≡ s
 date-of-one {m} {r} {s} a b =
     by-test (inYears m)
     (λ e.
@@ -87,7 +87,7 @@ date-of-one {m} {r} {s} a b =
     (λ e. a .refused e ∙ sym (b .refused e))
 
 -- date to moment to date is unchanged
-pub there-and-back : (d : Date) (r : Dated) → exists d ≡ true → IsDateOf (momentOf d) r → r ≡ record { number = 0; date = d }
+pub there-and-back : (d : Date) (r : DateResult) → exists d ≡ true → IsDateOf (momentOf d) r → r ≡ record { number = 0; date = d }
 there-and-back d r p a =
     let f = a .found (date-within p (own-second d)) in
     same-dated (f .0) (one-date (f .1) p (f .2) (own-second d))

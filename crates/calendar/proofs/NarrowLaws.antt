@@ -35,8 +35,8 @@ narrow-whole {wide} {narrow} c e =
 pub narrowed : {wide narrow : Date} → Cut wide narrow → Narrows wide narrow
 narrowed {wide} {narrow} c =
     record {
-      same =
+      exists-alike =
           by-test (exists wide) (λ e. ap exists (wide-whole c e)) (λ e.
           by-test (exists narrow) (λ f. ap exists (narrow-whole c f)) (λ f. f ∙ sym e));
-      is = wide-whole c;
+      equal = wide-whole c;
     }

@@ -32,7 +32,7 @@ monthLengths year =
 unfoldable pub monthLength : ℕ → ℕ → ℕ
 monthLength year month = getD (monthLengths year) (month - 1) 0
 
--- '1900-02-29 doesn't exist; 2000-02-29 does.' The year is one of those, the month one of its twelve, and the day one of the month's.
+-- '1900-02-29 doesn't exist; 2000-02-29 does.' The year is 1900 through 2099, the month 1 through 12, and the day 1 through the month's length.
 unfoldable pub dayExists : ℕ → ℕ → ℕ → Bool
 dayExists year month day =
     leb firstYear year && (leb year lastYear && (leb 1 month && (leb month 12 && (leb 1 day && leb day (monthLength year month)))))

@@ -9,8 +9,8 @@ use lib.ListN.{getD}
 use Rattle.bits.specs.Choice.{choose}
 use Rattle.calendar.specs.Calendar.{exists, secondNumber}
 use Rattle.calendar.specs.declared.Date.{Date}
-use Rattle.calendar.specs.declared.Dated.{Dated}
-use Rattle.calendar.specs.declared.DatedMoment.{DatedMoment}
+use Rattle.calendar.specs.declared.DateResult.{DateResult}
+use Rattle.calendar.specs.declared.MomentResult.{MomentResult}
 
 abbrev pub date : ℕ → ℕ → ℕ → ℕ → ℕ → ℕ → Date
 date year month day hour minute second =
@@ -28,15 +28,11 @@ epoch = date 2000 1 1 0 0 0
 unfoldable pub momentOf : Date → ℤ
 momentOf d = (pos (secondNumber d) -ℤ pos (secondNumber epoch)) *ℤ pos 1000000000
 
--- 'a refused one gives its number and zeros'; '11 for a date that doesn't exist or is outside those years, or a moment that has none'.
-abbrev pub zeros : Date
-zeros = date 0 0 0 0 0 0
+-- Date to moment, of every date handed in. 'a refused one gives its number and zeros'; '11 for a date that doesn't exist or is outside those years'
+unfoldable pub momentResult : Date → MomentResult
+momentResult d = choose (exists d) (λ _. record { number = 0; moment = momentOf d }) (λ _. record { number = 11; moment = pos 0 })
 
--- Date to moment, of every date handed in.
-unfoldable pub datedMoment : Date → DatedMoment
-datedMoment d = choose (exists d) (λ _. record { number = 0; moment = momentOf d }) (λ _. record { number = 11; moment = pos 0 })
-
--- The whole seconds from moment 0 to a moment, rounded toward minus infinity.
+-- The whole seconds from moment 0 to a moment, rounded toward minus infinity: it serves the proof of a private function.
 unfoldable pub floorSecond : ℤ → ℤ
 floorSecond (pos n) = pos (n / 1000000000)
 floorSecond (negsuc n) = negsuc (n / 1000000000)
@@ -56,19 +52,21 @@ lastMoment = momentOf (date 2099 12 31 23 59 59) +ℤ pos 999999999
 unfoldable pub inYears : ℤ → Bool
 inYears m = leZ firstMoment m && leZ m lastMoment
 
-abbrev pub undated : Dated
-undated = record { number = 11; date = zeros }
+-- 11 for 'a moment that has none', and six zeros
+abbrev pub undated : DateResult
+undated = record { number = 11; date = date 0 0 0 0 0 0 }
 
 -- Moment to date, of every moment handed in: the date that exists and in whose second the moment falls. There is one such date exactly for the
 -- moments of those years, and it is the only one (`has-date`, `one-date` of proofs/ConversionLaws.antt).
-pub record IsDateOf (m : ℤ) (r : Dated) : Type 0 where
+pub record IsDateOf (m : ℤ) (r : DateResult) : Type 0 where
   pub found : inYears m ≡ true → (r .number ≡ 0) × (exists (r .date) ≡ true) × FallsIn m (r .date)
   pub refused : inYears m ≡ false → r ≡ undated
 
--- Six numbers of any width as a date whose numbers fit their fields: if the six exist, that date, and if not, one that does not exist either.
+-- Six numbers of any width, handed to fields of 16 and 8 bits: if they are those of a date that exists, that date, and if not, one that does not
+-- exist either.
 pub record Narrows (wide narrow : Date) : Type 0 where
-  pub same : exists narrow ≡ exists wide
-  pub is : exists wide ≡ true → narrow ≡ wide
+  pub exists-alike : exists narrow ≡ exists wide
+  pub equal : exists wide ≡ true → narrow ≡ wide
 
 -- The order of dates by their numbers, from the year on: the first in which they differ decides.
 pub data Earlier (d e : Date) : Type 0 where

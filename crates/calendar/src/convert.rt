@@ -1,7 +1,7 @@
 // Dates to moments and moments to dates. Neither writes a line; each refuses with 11 alone.
 use crate::Date;
-use crate::Dated;
-use crate::DatedMoment;
+use crate::DateResult;
+use crate::MomentResult;
 use crate::months::days_of_months;
 use crate::months::month_length;
 use crate::months::months_before;
@@ -13,18 +13,18 @@ ghost use mathlib.Core.Bool.{true};
 ghost use lib.IntN.{pos};
 ghost use Prim.Native.Nat.{_<_, _*_};
 ghost use Rattle.calendar.specs.Calendar.{dayExists, timeExists, exists, daysOfYears, secondNumber};
-ghost use Rattle.calendar.specs.Conversion.{datedMoment, floorSecond, undated, IsDateOf};
+ghost use Rattle.calendar.specs.Conversion.{momentResult, floorSecond, undated, IsDateOf};
 
 const LAST_YEAR: u32 = 2099;
 
 const NO_DATE: u8 = 11;
 
-const NANOSECONDS: i64 = 1000000000;
+const SECOND_NANOSECONDS: i64 = 1000000000;
 
-const DAY: u64 = 86400;
+const DAY_SECONDS: u64 = 86400;
 
 // The seconds from 1900-01-01T00:00:00 to moment 0.
-const TO_2000: i64 = 3155673600;
+const SECONDS_TO_2000: i64 = 3155673600;
 
 // The first moment of 1900 and the last of 2099.
 const FIRST_MOMENT: i64 = -3155673600000000000;
@@ -84,26 +84,26 @@ fn second_number(date: Date) -> u64
     let days = days_of_years(year - FIRST_YEAR)
         + days_of_months(year, (date.month as u32) - 1)
         + ((date.day as u32) - 1);
-    (days as u64) * DAY
+    (days as u64) * DAY_SECONDS
         + (date.hour as u64) * 3600
         + (date.minute as u64) * 60
         + (date.second as u64)
 }
 
 // The moment at which a date's second begins.
-pub fn moment_of(date: Date) -> DatedMoment
-    ensures { λ r. ⌜ r ≡ datedMoment date ⌝ }
+pub fn moment_of(date: Date) -> MomentResult
+    ensures { λ r. ⌜ r ≡ momentResult date ⌝ }
 {
     if !date_exists(date) {
-        return DatedMoment {
+        return MomentResult {
             number: NO_DATE,
             moment: 0,
         };
     }
     let seconds = second_number(date) as i64;
-    DatedMoment {
+    MomentResult {
         number: 0,
-        moment: (seconds - TO_2000) * NANOSECONDS,
+        moment: (seconds - SECONDS_TO_2000) * SECOND_NANOSECONDS,
     }
 }
 
@@ -113,9 +113,9 @@ fn second_of(moment: i64) -> i64
     ensures { λ r. ⌜ r ≡ floorSecond moment ⌝ }
 {
     if moment < 0 {
-        return -1 - (-1 - moment) / NANOSECONDS;
+        return -1 - (-1 - moment) / SECOND_NANOSECONDS;
     }
-    moment / NANOSECONDS
+    moment / SECOND_NANOSECONDS
 }
 
 // The date that is so many seconds after 1900-01-01T00:00:00.
@@ -123,12 +123,12 @@ fn date_at(second: u64) -> Date
     requires { ⌜ second < daysOfYears 200 * 86400 ⌝ }
     ensures { λ r. ⌜ (exists r ≡ true) × (secondNumber r ≡ second) ⌝ }
 {
-    let days = (second / DAY) as u32;
+    let days = (second / DAY_SECONDS) as u32;
     let years = years_before(days);
     let year = FIRST_YEAR + years;
     let day = days - days_of_years(years);
     let months = months_before(year, day);
-    let rest = (second % DAY) as u32;
+    let rest = (second % DAY_SECONDS) as u32;
     Date {
         year: year as u16,
         month: (months + 1) as u8,
@@ -139,7 +139,7 @@ fn date_at(second: u64) -> Date
     }
 }
 
-fn no_date() -> Dated
+fn no_date() -> DateResult
     ensures { λ r. ⌜ r ≡ undated ⌝ }
 {
     let date = Date {
@@ -150,14 +150,14 @@ fn no_date() -> Dated
         minute: 0,
         second: 0,
     };
-    Dated {
+    DateResult {
         number: NO_DATE,
         date,
     }
 }
 
 // The date in whose second a moment falls.
-pub fn date_of(moment: i64) -> Dated
+pub fn date_of(moment: i64) -> DateResult
     ensures { λ r. ⌜ IsDateOf moment r ⌝ }
 {
     if moment < FIRST_MOMENT {
@@ -166,8 +166,8 @@ pub fn date_of(moment: i64) -> Dated
     if LAST_MOMENT < moment {
         return no_date();
     }
-    let second = (second_of(moment) + TO_2000) as u64;
-    Dated {
+    let second = (second_of(moment) + SECONDS_TO_2000) as u64;
+    DateResult {
         number: 0,
         date: date_at(second),
     }

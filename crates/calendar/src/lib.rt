@@ -15,13 +15,13 @@ pub struct Date {
 }
 
 // The moment of a date: number 0, or 11 and moment 0 for a date that doesn't exist.
-pub struct DatedMoment {
+pub struct MomentResult {
     pub number: u8,
     pub moment: i64,
 }
 
 // The date of a moment: number 0, or 11 and six zeros for a moment outside the years.
-pub struct Dated {
+pub struct DateResult {
     pub number: u8,
     pub date: Date,
 }

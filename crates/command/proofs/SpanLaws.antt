@@ -1,4 +1,4 @@
--- Laws of a window's span: what the tests on the way say of it, and that it is a span of moments that ends after it begins.
+-- Laws of a window's span: what the tests on the way say of it.
 use mathlib.Core.Path.{_≡_, refl, sym, ap, _∙_}
 use mathlib.Core.Bool.{Bool, true, false, _&&_}
 use Prim.Native.Nat.{ℕ}
@@ -7,7 +7,7 @@ use lib.IntN.{ℤ}
 use lib.Signed.{ltZ}
 use Rattle.bits.proofs.Tests.{by-test}
 use Rattle.calendar.specs.Calendar.{exists}
-use Rattle.calendar.specs.Conversion.{momentOf, datedMoment}
+use Rattle.calendar.specs.Conversion.{momentOf, momentResult}
 use Rattle.calendar.specs.declared.Date.{Date}
 use Rattle.command.specs.Limits.{slotWithin}
 use Rattle.command.specs.Causes.{first}
@@ -16,12 +16,12 @@ use Rattle.command.specs.declared.windows.WindowSpan.the-variants as S
 
 -- ---- a date's moment, by the number that comes with it
 
-pub dated : (d : Date) → datedMoment d .number ≡ 0 → (exists d ≡ true) × (datedMoment d .moment ≡ momentOf d)
-unfolding datedMoment
+pub dated : (d : Date) → momentResult d .number ≡ 0 → (exists d ≡ true) × (momentResult d .moment ≡ momentOf d)
+unfolding momentResult
 dated d h = by-test (exists d) (λ e. (e, rw e)) (λ e. absurd (omega (arith, rw e at h)))
 
-pub not-dated : (d : Date) → (datedMoment d .number ≡ 0 → ⊥) → exists d ≡ false
-unfolding datedMoment
+pub not-dated : (d : Date) → (momentResult d .number ≡ 0 → ⊥) → exists d ≡ false
+unfolding momentResult
 not-dated d h = by-test (exists d) (λ e. absurd (h (rw e))) (λ e. e)
 
 -- ---- the span, by the tests

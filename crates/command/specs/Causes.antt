@@ -1,4 +1,4 @@
--- Causes of a refusal: document 01, 'Causes of a refusal'. 'The first cause that holds is given.'
+-- Causes of a refusal: document 01, 'Causes of a refusal', and document 02, order 3. 'The first cause that holds is given.'
 use mathlib.Core.Bool.{Bool, not, _&&_}
 use mathlib.Core.List.{List, [], _∷_}
 use Prim.Native.Nat.{ℕ}
@@ -24,7 +24,7 @@ unfoldable pub first : List Cause → ℕ
 first [] = 0
 first (c ∷ cs) = choose (c .holds) (λ _. c .number) (λ _. first cs)
 
--- The greatest number of the table.
+-- The greatest number of a refusal: 10 in document 01's table, 11 and 12 by document 02, order 3.
 abbrev pub mostNumber : ℕ
 mostNumber = 12
 

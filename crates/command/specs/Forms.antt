@@ -12,8 +12,8 @@ use Rattle.moment.specs.declared.Interval.{Interval}
 use Rattle.rules.specs.declared.Rule.{Rule}
 use Rattle.rules.specs.declared.Rule.the-variants.{Im, Mm}
 
--- A form: its word, and the numbers of its parts. Of a pair of edges the first is the lower, or TRAILING, and the second the upper, or
--- LEADING.
+-- A form: its word, and the numbers and dates of its parts. Of a pair of edges the first is the lower, or TRAILING, and the second the upper, or
+-- LEADING; of a window's dates the first is its start, and the second its end.
 pub data Form : Type 0 where
   start : (board : ℕ) (rule : Rule) (claim : ℕ) (edges : Interval) → Form
   pass : (ticks : ℕ) → Form

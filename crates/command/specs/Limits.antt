@@ -1,4 +1,5 @@
--- The limits of the numbers in a form, and the command that a form within them is: document 01, 'Line forms' and 'Moments and ticks'.
+-- The limits of the numbers in a form, and the command that a form within them is: document 01, 'Line forms' and 'Moments and ticks',
+-- and document 02, order 3.
 use mathlib.Core.Bool.{Bool, true, _&&_}
 use Prim.Native.Nat.{ℕ}
 use lib.Dec.{leb}
@@ -43,7 +44,7 @@ keeps F.read = true
 keeps F.waiting = true
 keeps (F.window slot begins ends) = slotWithin slot
 
--- The command of a form, and the form of a command: the same word and the same numbers.
+-- The command of a form, and the form of a command: the same word, the same numbers and the same dates.
 abbrev pub commandOf : Form → Command
 commandOf (F.start board rule claim edges) = C.Start board rule claim edges
 commandOf (F.pass ticks) = C.Pass ticks

@@ -1,4 +1,4 @@
-// The limits of each number: document 01, 'Line forms' and 'Moments and ticks'. Each stands here once.
+// The limits of each number: document 01, 'Line forms' and 'Moments and ticks', and document 02, order 3. Each stands here once.
 use moment::Interval;
 use moment::intervals::edges_within;
 ghost use mathlib.Core.Path.{_≡_};

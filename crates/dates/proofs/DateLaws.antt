@@ -153,7 +153,7 @@ byte-next line at w absent k v other e = go (wordAt line at w) refl e
 
 -- ---- what is read is a spelling
 
-four : (century year : ℕ) → century < 100 → year < 100 → lastDigits 4 (century * 100 + year) ≡ lastDigits 2 century ++ lastDigits 2 year
+four : (hundreds year : ℕ) → hundreds < 100 → year < 100 → lastDigits 4 (hundreds * 100 + year) ≡ lastDigits 2 hundreds ++ lastDigits 2 year
 four c y h l = last-join 2 2 c y l
 
 record DayHere (line : List ℕ) (at year month day next : ℕ) : Type 0 where

@@ -2,3 +2,4 @@
 pub mod DateLaws
 pub mod PlacedLaws
 pub mod FitLaws
+pub mod NamedDates

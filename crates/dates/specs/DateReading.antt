@@ -41,12 +41,12 @@ afterByte Other absent k = absent
 -- Four digits are two and two.
 unfoldable pub dayAt : List ℕ → ℕ → DayAt
 dayAt line at =
-    afterTwo (twoAt line at) D.Absent (λ century at.
+    afterTwo (twoAt line at) D.Absent (λ hundreds at.
     afterTwo (twoAt line at) D.Absent (λ year at.
     afterByte (wordAt line at (bytes "-")) D.Absent (λ at.
     afterTwo (twoAt line at) D.Absent (λ month at.
     afterByte (wordAt line at (bytes "-")) D.Absent (λ at.
-    afterTwo (twoAt line at) D.Absent (λ day at. D.Of (century * 100 + year) month day at))))))
+    afterTwo (twoAt line at) D.Absent (λ day at. D.Of (hundreds * 100 + year) month day at))))))
 
 unfoldable pub timeAt : List ℕ → ℕ → TimeAt
 timeAt line at =

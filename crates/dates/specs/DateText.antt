@@ -26,7 +26,7 @@ pub record Fits (d : Date) : Type 0 where
   pub minute : d .minute < 100
   pub second : d .second < 100
 
--- The bytes are a spelling of the date, which need not exist: any digits in that shape are a shape.
+-- The bytes are a spelling of the date, which need not exist: any digits may stand in its fields.
 pub record DateSpelling (d : Date) (s : List ℕ) : Type 0 where
   pub fits : Fits d
   pub spelling : s ≡ dateText d

@@ -59,7 +59,7 @@ fn two_at(line: &[u8], at: usize) -> Two
 fn day_at(line: &[u8], at: usize) -> DayAt
     ensures { λ r. ⌜ r ≡ dayAt (now (line .entry)) at ⌝ }
 {
-    let Two::Of(century, at) = two_at(line, at) else {
+    let Two::Of(hundreds, at) = two_at(line, at) else {
         return DayAt::Absent;
     };
     let Two::Of(year, at) = two_at(line, at) else {
@@ -77,7 +77,7 @@ fn day_at(line: &[u8], at: usize) -> DayAt
     let Two::Of(day, at) = two_at(line, at) else {
         return DayAt::Absent;
     };
-    DayAt::Of((century as u16) * 100 + (year as u16), month, day, at)
+    DayAt::Of((hundreds as u16) * 100 + (year as u16), month, day, at)
 }
 
 // 00:00:00

@@ -77,8 +77,8 @@ narrow-written slot out {b} {e} {d} {f} p q =
     (exists b && exists e)
     (λ t.
     let (x, y) = both (exists b) (exists e) t in
-    ap (λ (z : Date). writtenForm (window slot z f) out) (p .is x) ∙ ap (λ (z : Date). writtenForm (window slot b z) out) (q .is y))
+    ap (λ (z : Date). writtenForm (window slot z f) out) (p .equal x) ∙ ap (λ (z : Date). writtenForm (window slot b z) out) (q .equal y))
     (λ t.
-    let cut : exists d && exists f ≡ false = rw (p .same, q .same) t in
+    let cut : exists d && exists f ≡ false = rw (p .exists-alike, q .exists-alike) t in
     let wide = undated-cause slot b e t in
     writes-caused _ _ _ _ out (undated-cause slot d f cut ∙ sym wide) (λ z. some-cause (slotWithin slot) (sym wide ∙ z)))

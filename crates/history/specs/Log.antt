@@ -146,6 +146,7 @@ logAccepted l (C.Drop peer) =
     }
 logAccepted l C.Read = l
 logAccepted l C.Waiting = l
+-- of a window too nothing moves: document 02, order 3
 logAccepted l (C.Window slot start end) = l
 
 -- A line is accepted where no cause of a refusal holds: the output is large enough, the line is a command, and the causes that ask about the

@@ -7,3 +7,4 @@ pub mod Listing
 pub mod CallLaws
 pub mod Returned
 pub mod Accepted
+pub mod HeaterLaws

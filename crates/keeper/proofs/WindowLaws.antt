@@ -11,7 +11,7 @@ use Rattle.bits.proofs.Tests.{by-test}
 use Rattle.moment.specs.declared.Interval.{Interval}
 use Rattle.calendar.specs.declared.Date.{Date}
 use Rattle.rules.specs.Rules.{told}
-use Rattle.rules.specs.Windows.{windowOf}
+use Rattle.rules.specs.Windows.{windowState}
 use Rattle.command.specs.Forms as F
 use Rattle.command.specs.Causes.{Cause, cause, first, formCauses, ownCauses}
 use Rattle.command.specs.Windows.{spanOf, windowSpan}
@@ -69,7 +69,7 @@ module _ (slot : ℕ) (begins ends : Date) where
         rw (past-own started none, off)
 
     pub answer-heater : {started : Bool} (w : Interval) → started ≡ true → windowSpan slot begins ends ≡ S.Of w
-        → A.Heater slot (windowOf w edges) ≡ windowAnswer started edges slot begins ends
+        → A.Heater slot (windowState w edges) ≡ windowAnswer started edges slot begins ends
     unfolding windowAnswer first
     answer-heater {started} w on h =
         let (is, none) = span-none w h in

@@ -10,7 +10,7 @@ use Rattle.bits.specs.Below.{countBelow}
 use Rattle.moment.specs.declared.Interval.{Interval}
 use Rattle.rules.specs.Rules.{widened, told, centre, errorOf}
 use Rattle.rules.specs.Verdict.{conflictsAfter}
-use Rattle.rules.specs.Windows.{windowOf}
+use Rattle.rules.specs.Windows.{windowState}
 use Rattle.rules.specs.declared.Rule.{Rule}
 use Rattle.rules.specs.declared.Verdict.{Verdict}
 use Rattle.command.specs.Windows.{spanOf}
@@ -98,7 +98,8 @@ accepted k C.Read =
     let edges = told (k .claim) (k .edges) in
     outcomeOf (A.Time edges (centre edges) (errorOf edges) (k .conflicts) (countBelow 16 (bitOf (k .waiting)))) k
 accepted k C.Waiting = outcomeOf A.Waiting k
-accepted k (C.Window slot start end) = outcomeOf (A.Heater slot (windowOf (spanOf start end) (told (k .claim) (k .edges)))) k
+-- '`(open SLOT)` if every moment from the keeper's lower through its upper edge is inside, `(shut SLOT)` if none is, and otherwise `(unsure SLOT)`'
+accepted k (C.Window slot start end) = outcomeOf (A.Heater slot (windowState (spanOf start end) (told (k .claim) (k .edges)))) k
 
 -- What a command does: 'The keeper stays as it was in every row' of the refusals.
 unfoldable pub apply : Keeper → Command → Outcome

@@ -1,4 +1,5 @@
--- The answer to a window, from what it needs of a keeper: whether it counts as started, and the edges that are told.
+-- The answer to a window, from what it needs of a keeper: whether it counts as started, and the edges that are told. It serves the proof of a
+-- private function: what a window does, `apply` says.
 use mathlib.Core.Bool.{Bool, not}
 use mathlib.Core.List.{[], _∷_, _++_}
 use Prim.Native.Nat.{ℕ}
@@ -6,7 +7,7 @@ use lib.Dec.{eqb}
 use Rattle.bits.specs.Choice.{choose}
 use Rattle.moment.specs.declared.Interval.{Interval}
 use Rattle.calendar.specs.declared.Date.{Date}
-use Rattle.rules.specs.Windows.{windowOf}
+use Rattle.rules.specs.Windows.{windowState}
 use Rattle.command.specs.Forms.{window}
 use Rattle.command.specs.Causes.{cause, first, formCauses}
 use Rattle.command.specs.Windows.{spanOf}
@@ -17,4 +18,4 @@ use Rattle.keeper.specs.declared.Answer.the-variants as A
 unfoldable pub windowAnswer : Bool → Interval → ℕ → Date → Date → Answer
 windowAnswer started edges slot begins ends =
     let n = first (formCauses (window slot begins ends) ++ cause 3 (not started) ∷ []) in
-    choose (eqb n 0) (λ _. A.Heater slot (windowOf (spanOf begins ends) edges)) (λ _. A.Refused n)
+    choose (eqb n 0) (λ _. A.Heater slot (windowState (spanOf begins ends) edges)) (λ _. A.Refused n)

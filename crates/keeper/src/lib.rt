@@ -2,7 +2,7 @@
 use moment::Interval;
 use rules::Rule;
 use rules::Verdict;
-use rules::Window;
+use rules::WindowState;
 
 pub mod calls;
 pub mod number;
@@ -43,7 +43,7 @@ pub enum Answer {
         waiting: u32,
     },
     Waiting,
-    Heater(u8, Window),
+    Heater(u8, WindowState),
     Refused(u8),
 }
 

@@ -1,10 +1,10 @@
-// What is answered of a heater's window: document 02, order 3. It takes the edges that are told, and not the keeper, since nothing in it moves.
+// What is answered of a heater's window: document 02, order 3. It takes the edges that are told, and not the keeper, since a window changes nothing in the keeper.
 use crate::Answer;
 use calendar::Date;
 use command::windows::WindowSpan;
 use command::windows::window_span;
 use moment::Interval;
-use rules::windows::window_of;
+use rules::windows::window_state;
 ghost use mathlib.Core.Path.{_≡_};
 ghost use Rattle.keeper.specs.Windows.{windowAnswer};
 
@@ -24,7 +24,7 @@ pub(crate) fn window_answer(
             if !started {
                 return Answer::Refused(3);
             }
-            Answer::Heater(slot, window_of(window, edges))
+            Answer::Heater(slot, window_state(window, edges))
         }
         WindowSpan::Refused(number) => Answer::Refused(number),
     }

@@ -4,7 +4,9 @@ use mathlib.Core.Path.{_≡_, refl, sym, _∙_}
 use mathlib.Core.Bool.{Bool, true, false}
 use mathlib.Core.List.{List, _++_}
 use Prim.Native.Nat.{ℕ, suc}
-use lib.Dec.{ltb}
+use native.Mathlib.Omega.{arith}
+use borrow.Author.Tests.{eqb-true, eqb-false}
+use lib.Dec.{ltb, eqb}
 use Rattle.bits.specs.Choice.{choose}
 use Rattle.bits.proofs.Tests.{by-test}
 use Rattle.command.specs.Limits.{keeps, formOf}
@@ -13,7 +15,7 @@ use Rattle.command.specs.declared.Command.{Command}
 use Rattle.command.specs.declared.Command.the-variants as C
 use Rattle.command.specs.declared.Reading.{Reading}
 use Rattle.command.specs.declared.Reading.the-variants.{Accepted, NoShape, OutsideLimits}
-use Rattle.command.proofs.CauseLaws.{NoneHolds, FirstCause, numbered, first-made, first-found, first-none, none-first}
+use Rattle.command.proofs.CauseLaws.{NoneHolds, FirstCause, numbered, first-made, first-found, first-none, none-first, first-front}
 use Rattle.reader.specs.Reading.{readingOf}
 use Rattle.reader.proofs.GrammarLaws.{reads-the-grammar}
 use Rattle.keeper.specs.State.{State, stateOf}
@@ -75,3 +77,21 @@ module _ (k : Keeper) (line : List ℕ) (room : ℕ) where
 
   pub none-returned : NoneHolds (callCauses k line room) → numberAfter k line room ≡ 0
   none-returned none = number-first k line room ∙ none-first (callCauses k line room) none
+
+  -- a line for which the call returns 0, and that was read as a command: no cause of the command holds
+  accepted-refusal : (c : Command) → readingOf line ≡ Accepted c → numberAfter k line room ≡ 0 → refusal (stateOf k) c ≡ 0
+  unfolding numberAfter answered
+  accepted-refusal c read e =
+      by-test (ltb room leastOutput)
+      (λ t. absurd (omega (arith, rw t at e)))
+      (λ t. sym (apply-number k c) ∙ rw (t, read) at e)
+
+  -- so none of its own does, and order 1's writer does not refuse the command of an accepted line
+  pub accepted-own : (c : Command) → readingOf line ≡ Accepted c → numberAfter k line room ≡ 0 → first (ownCauses c) ≡ 0
+  unfolding refusal causes
+  accepted-own c read e =
+      by-test (eqb (first (ownCauses c)) 0)
+      (λ t. eqb-true (first (ownCauses c)) 0 t)
+      (λ t.
+      let some = eqb-false (first (ownCauses c)) 0 t in
+      absurd (some (sym (first-front (ownCauses c) (keeperCauses (stateOf k) c) some) ∙ accepted-refusal c read e)))

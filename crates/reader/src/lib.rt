@@ -1,4 +1,4 @@
-// The reader of command lines: document 01, 'Line forms'. It takes a line of any bytes and any length.
+// The reader of command lines: document 01, 'Line forms', and document 02, order 3. It takes a line of any bytes and any length.
 use crate::walk::begin;
 use crate::walk::moved;
 use crate::walk::rest;

@@ -9,27 +9,27 @@ use Rattle.bits.proofs.Tests.{by-test}
 use Rattle.moment.specs.Intervals.{Holds}
 use Rattle.moment.specs.declared.Interval.{Interval}
 use Rattle.moment.proofs.Integers.{ints, make-leZ-true, make-leZ-false, make-ltZ-true, make-ltZ-false}
-use Rattle.rules.specs.Windows.{Inside, Every, None, Says, windowOf}
-use Rattle.rules.specs.declared.Window.{Window}
-use Rattle.rules.specs.declared.Window.the-variants.{Open, Shut, Unsure}
+use Rattle.rules.specs.Windows.{Inside, AllInside, NoneInside, Says, windowState}
+use Rattle.rules.specs.declared.WindowState.{WindowState}
+use Rattle.rules.specs.declared.WindowState.the-variants.{Open, Shut, Unsure}
 
 module _ (w e : Interval) where
   -- by the edges
-  pub shut-before : e .upper <ℤ w .lower → windowOf w e ≡ Shut
-  unfolding windowOf
+  pub shut-before : e .upper <ℤ w .lower → windowState w e ≡ Shut
+  unfolding windowState
   shut-before h = rw (make-ltZ-true (e .upper) (w .lower) (omega ints))
 
-  pub shut-after : w .lower ≤ℤ e .upper → w .upper ≤ℤ e .lower → windowOf w e ≡ Shut
-  unfolding windowOf
+  pub shut-after : w .lower ≤ℤ e .upper → w .upper ≤ℤ e .lower → windowState w e ≡ Shut
+  unfolding windowState
   shut-after h k = rw (make-ltZ-false (e .upper) (w .lower) (omega ints), make-leZ-true (w .upper) (e .lower) (omega ints))
 
-  pub unsure-before : w .lower ≤ℤ e .upper → e .lower <ℤ w .upper → e .lower <ℤ w .lower → windowOf w e ≡ Unsure
-  unfolding windowOf
+  pub unsure-before : w .lower ≤ℤ e .upper → e .lower <ℤ w .upper → e .lower <ℤ w .lower → windowState w e ≡ Unsure
+  unfolding windowState
   unsure-before h k l =
       rw (make-ltZ-false (e .upper) (w .lower) (omega ints), make-leZ-false (w .upper) (e .lower) (omega ints), make-leZ-false (w .lower) (e .lower) (omega ints))
 
-  pub unsure-after : w .lower ≤ℤ e .upper → e .lower <ℤ w .upper → w .lower ≤ℤ e .lower → w .upper ≤ℤ e .upper → windowOf w e ≡ Unsure
-  unfolding windowOf
+  pub unsure-after : w .lower ≤ℤ e .upper → e .lower <ℤ w .upper → w .lower ≤ℤ e .lower → w .upper ≤ℤ e .upper → windowState w e ≡ Unsure
+  unfolding windowState
   unsure-after h k l m =
       rw (
         make-ltZ-false (e .upper) (w .lower) (omega ints),
@@ -38,8 +38,8 @@ module _ (w e : Interval) where
         make-ltZ-false (e .upper) (w .upper) (omega ints),
       )
 
-  pub open-within : w .lower ≤ℤ e .upper → e .lower <ℤ w .upper → w .lower ≤ℤ e .lower → e .upper <ℤ w .upper → windowOf w e ≡ Open
-  unfolding windowOf
+  pub open-within : w .lower ≤ℤ e .upper → e .lower <ℤ w .upper → w .lower ≤ℤ e .lower → e .upper <ℤ w .upper → windowState w e ≡ Open
+  unfolding windowState
   open-within h k l m =
       rw (
         make-ltZ-false (e .upper) (w .lower) (omega ints),
@@ -62,8 +62,8 @@ module _ (w e : Interval) (order : e .lower ≤ℤ e .upper) (ends : w .lower <�
 
   -- which word it is, and that it says what is so
   record Told : Type 0 where
-    word : Window
-    is : windowOf w e ≡ word
+    word : WindowState
+    is : windowState w e ≡ word
     says : Says word w e
 
   found : Told
@@ -82,7 +82,7 @@ module _ (w e : Interval) (order : e .lower ≤ℤ e .upper) (ends : w .lower <�
       (λ b. record { word = Shut; is = shut-after w e a b; says = λ m h i. omega ints }))
 
   -- no two words say what is so
-  one-word : (a b : Window) → Says a w e → Says b w e → a ≡ b
+  one-word : (a b : WindowState) → Says a w e → Says b w e → a ≡ b
   one-word Open Open p q = refl
   one-word Open Shut p q = absurd (q (e .lower) lower-held (p (e .lower) lower-held))
   one-word Open Unsure p q = absurd (q .0 p)
@@ -93,5 +93,5 @@ module _ (w e : Interval) (order : e .lower ≤ℤ e .upper) (ends : w .lower <�
   one-word Unsure Shut p q = absurd (p .1 q)
   one-word Unsure Unsure p q = refl
 
-  pub window-says : (o : Window) → (windowOf w e ≡ o) ↔ Says o w e
+  pub window-says : (o : WindowState) → (windowState w e ≡ o) ↔ Says o w e
   window-says o = (λ h. subst (λ a. Says a w e) (sym (found .is) ∙ h) (found .says), λ h. found .is ∙ one-word (found .word) o (found .says) h)

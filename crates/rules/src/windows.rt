@@ -1,25 +1,25 @@
 // A heater's window and the keeper's edges: document 02, order 3.
-use crate::Window;
+use crate::WindowState;
 use moment::Interval;
 ghost use mathlib.Core.Path.{_≡_};
-ghost use Rattle.rules.specs.Windows.{windowOf};
+ghost use Rattle.rules.specs.Windows.{windowState};
 
 // The window runs from its first moment up to its last, which it does not hold. The edges' moments are none of the window's if they end before
 // it begins or begin where it has ended, and all inside if none of them is before its first or from its last on.
-pub fn window_of(window: Interval, edges: Interval) -> Window
-    ensures { λ r. ⌜ r ≡ windowOf window edges ⌝ }
+pub fn window_state(window: Interval, edges: Interval) -> WindowState
+    ensures { λ r. ⌜ r ≡ windowState window edges ⌝ }
 {
     if edges.upper < window.lower {
-        return Window::Shut;
+        return WindowState::Shut;
     }
     if window.upper <= edges.lower {
-        return Window::Shut;
+        return WindowState::Shut;
     }
     if edges.lower < window.lower {
-        return Window::Unsure;
+        return WindowState::Unsure;
     }
     if window.upper <= edges.upper {
-        return Window::Unsure;
+        return WindowState::Unsure;
     }
-    Window::Open
+    WindowState::Open
 }

@@ -11,7 +11,7 @@ use mir.Val.{SFits, ofZ, toZ}
 use mir.Facts.{toZ-ofZ}
 use Rattle.moment.proofs.Integers.{ints, dif, mul, widened}
 use Rattle.calendar.specs.Calendar.{exists}
-use Rattle.calendar.specs.Conversion.{datedMoment}
+use Rattle.calendar.specs.Conversion.{momentResult}
 use Rattle.calendar.proofs.DateLaws.{parts, second-most}
 use Rattle.calendar.proofs.MomentLaws.{moment-is}
 use Rattle.calendar.proofs.convert.moment_of.Statement.{statement}
@@ -38,7 +38,7 @@ date-exists-requires : tie.Need-date-exists-requires
 date-exists-requires c κs = search needs
 
 returns : tie.Need-returns
-unfolding datedMoment
+unfolding momentResult
 returns c = rw (sym (c .before .date-exists .ensures) ∙ not-true _ (c .if1 .taken))
 
 -- behind the test the date exists
@@ -62,7 +62,7 @@ mul-t7 : tie.Need-mul-t7
 mul-t7 c = in-nanoseconds _ (few c)
 
 returns-2 : tie.Need-returns-2
-unfolding datedMoment
+unfolding momentResult
 returns-2 c = rw (there (c .before), result-is _ (few c), moment-is, c .second-number .ensures)
 
 pub moment-of-spec : {M : Type 1} → statement M

@@ -8,8 +8,8 @@ use Rattle.dates.proofs.read.day_at.Tie as tie
 two-at-requires : tie.Need-two-at-requires
 two-at-requires c κs = search needs
 
-enum-known-century : tie.Need-enum-known-century
-enum-known-century c = search needs
+enum-known-hundreds : tie.Need-enum-known-hundreds
+enum-known-hundreds c = search needs
 
 enum-told : tie.Need-enum-told
 enum-told c = search needs
@@ -32,7 +32,7 @@ returns-2 : tie.Need-returns-2
 unfolding dayAt
 returns-2 c =
     rw (
-      sym (c .before .before .before .before .before .before .two-at .ensures) ∙ c .before .before .before .before .century .given .1,
+      sym (c .before .before .before .before .before .before .two-at .ensures) ∙ c .before .before .before .before .hundreds .given .1,
       sym (c .before .before .two-at2 .ensures) ∙ c .enum-told2 .given .1,
     )
 
@@ -52,7 +52,7 @@ returns-3 : tie.Need-returns-3
 unfolding dayAt
 returns-3 c =
     rw (
-      sym (c .before .before .before .before .before .before .before .before .before .before .before .two-at .ensures) ∙ c .before .before .before .before .before .before .before .before .before .century .given .1,
+      sym (c .before .before .before .before .before .before .before .before .before .before .before .two-at .ensures) ∙ c .before .before .before .before .before .before .before .before .before .hundreds .given .1,
       sym (c .before .before .before .before .before .before .before .two-at2 .ensures) ∙ c .before .before .before .before .before .year .given .1,
       sym (c .before .before .word-at .ensures) ∙ c .enum-told3 .given .1,
     )
@@ -70,7 +70,7 @@ returns-4 : tie.Need-returns-4
 unfolding dayAt
 returns-4 c =
     rw (
-      sym (c .before .before .before .before .before .before .before .before .before .before .before .before .before .before .before .two-at .ensures) ∙ c .before .before .before .before .before .before .before .before .before .before .before .before .before .century .given .1,
+      sym (c .before .before .before .before .before .before .before .before .before .before .before .before .before .before .before .two-at .ensures) ∙ c .before .before .before .before .before .before .before .before .before .before .before .before .before .hundreds .given .1,
       sym (c .before .before .before .before .before .before .before .before .before .before .before .two-at2 .ensures) ∙ c .before .before .before .before .before .before .before .before .before .year .given .1,
       sym (c .before .before .before .before .before .before .word-at .ensures) ∙ c .before .before .before .before .at .given .1,
       sym (c .before .before .two-at3 .ensures) ∙ c .enum-told4 .given .1,
@@ -92,7 +92,7 @@ returns-5 : tie.Need-returns-5
 unfolding dayAt
 returns-5 c =
     rw (
-      sym (c .before .before .before .before .before .before .before .before .before .before .before .before .before .before .before .before .before .before .before .before .two-at .ensures) ∙ c .before .before .before .before .before .before .before .before .before .before .before .before .before .before .before .before .before .before .century .given .1,
+      sym (c .before .before .before .before .before .before .before .before .before .before .before .before .before .before .before .before .before .before .before .before .two-at .ensures) ∙ c .before .before .before .before .before .before .before .before .before .before .before .before .before .before .before .before .before .before .hundreds .given .1,
       sym (c .before .before .before .before .before .before .before .before .before .before .before .before .before .before .before .before .two-at2 .ensures) ∙ c .before .before .before .before .before .before .before .before .before .before .before .before .before .before .year .given .1,
       sym (c .before .before .before .before .before .before .before .before .before .before .before .word-at .ensures) ∙ c .before .before .before .before .before .before .before .before .before .at .given .1,
       sym (c .before .before .before .before .before .before .before .two-at3 .ensures) ∙ c .before .before .before .before .before .month .given .1,
@@ -112,7 +112,7 @@ returns-6 : tie.Need-returns-6
 unfolding dayAt
 returns-6 c =
     rw (
-      sym (c .before .before .before .before .before .before .before .before .before .before .before .before .before .before .before .before .before .before .before .before .before .before .before .before .two-at .ensures) ∙ c .before .before .before .before .before .before .before .before .before .before .before .before .before .before .before .before .before .before .before .before .before .before .century .given .1,
+      sym (c .before .before .before .before .before .before .before .before .before .before .before .before .before .before .before .before .before .before .before .before .before .before .before .before .two-at .ensures) ∙ c .before .before .before .before .before .before .before .before .before .before .before .before .before .before .before .before .before .before .before .before .before .before .hundreds .given .1,
       sym (c .before .before .before .before .before .before .before .before .before .before .before .before .before .before .before .before .before .before .before .before .two-at2 .ensures) ∙ c .before .before .before .before .before .before .before .before .before .before .before .before .before .before .before .before .before .before .year .given .1,
       sym (c .before .before .before .before .before .before .before .before .before .before .before .before .before .before .before .word-at .ensures) ∙ c .before .before .before .before .before .before .before .before .before .before .before .before .before .at .given .1,
       sym (c .before .before .before .before .before .before .before .before .before .before .before .two-at3 .ensures) ∙ c .before .before .before .before .before .before .before .before .before .month .given .1,
@@ -136,7 +136,7 @@ returns-7 : tie.Need-returns-7
 unfolding dayAt
 returns-7 c =
     rw (
-      sym (c .before .before .before .before .before .before .before .before .before .before .before .before .before .before .before .before .before .before .before .before .before .before .before .before .before .two-at .ensures) ∙ c .before .before .before .before .before .before .before .before .before .before .before .before .before .before .before .before .before .before .before .before .before .before .before .century .given .1,
+      sym (c .before .before .before .before .before .before .before .before .before .before .before .before .before .before .before .before .before .before .before .before .before .before .before .before .before .two-at .ensures) ∙ c .before .before .before .before .before .before .before .before .before .before .before .before .before .before .before .before .before .before .before .before .before .before .before .hundreds .given .1,
       sym (c .before .before .before .before .before .before .before .before .before .before .before .before .before .before .before .before .before .before .before .before .before .two-at2 .ensures) ∙ c .before .before .before .before .before .before .before .before .before .before .before .before .before .before .before .before .before .before .before .year .given .1,
       sym (c .before .before .before .before .before .before .before .before .before .before .before .before .before .before .before .before .word-at .ensures) ∙ c .before .before .before .before .before .before .before .before .before .before .before .before .before .before .at .given .1,
       sym (c .before .before .before .before .before .before .before .before .before .before .before .before .two-at3 .ensures) ∙ c .before .before .before .before .before .before .before .before .before .before .month .given .1,
@@ -149,7 +149,7 @@ day-at-spec =
     tie.close
     (tie.spec
     two-at-requires
-    enum-known-century
+    enum-known-hundreds
     enum-told
     returns
     two-at-requires-2

@@ -17,15 +17,15 @@ returns c =
     answer-not-started _ _ _ _ _ (not-true _ (c .if1 .taken))
     (sym (c .before .before .before .before .window-span .ensures) ∙ c .before .before .span .given .1)
 
-window-of-requires : tie.Need-window-of-requires
-window-of-requires c κs = search needs
+window-state-requires : tie.Need-window-state-requires
+window-state-requires c κs = search needs
 
 enum-known-span-2 : tie.Need-enum-known-span-2
 enum-known-span-2 c = search needs
 
 returns-2 : tie.Need-returns-2
 returns-2 c =
-    rw (c .window-of .ensures)
+    rw (c .window-state .ensures)
     (answer-heater _ _ _ _ _ (not-false _ (c .before .if1 .left))
     (sym (c .before .before .before .before .before .window-span .ensures) ∙ c .before .before .before .span .given .1))
 
@@ -39,7 +39,7 @@ window-answer-spec =
     window-span-requires
     enum-known-span
     returns
-    window-of-requires
+    window-state-requires
     enum-known-span-2
     returns-2
     returns-3)

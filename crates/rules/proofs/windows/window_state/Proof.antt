@@ -1,10 +1,10 @@
--- `rules::windows::window_of` meets its contract: each test is the next one of the laws by the edges.
+-- `rules::windows::window_state` meets its contract: each test is the next one of the laws by the edges.
 use mathlib.Core.Path.{sym}
 use borrow.Author.Needs.{needs}
 use Rattle.moment.proofs.Integers.{ints, got}
 use Rattle.rules.proofs.WindowLaws.{shut-before, shut-after, unsure-before, unsure-after, open-within}
-use Rattle.rules.proofs.windows.window_of.Statement.{statement}
-use Rattle.rules.proofs.windows.window_of.Tie as tie
+use Rattle.rules.proofs.windows.window_state.Statement.{statement}
+use Rattle.rules.proofs.windows.window_state.Tie as tie
 
 returns : tie.Need-returns
 returns c =
@@ -65,5 +65,5 @@ returns-5 c =
     let t3 = rw (wu, eu) at (c .if4 .left) in
     sym (open-within (x .window) (x .edges) (omega ints) (omega ints) (omega ints) (omega ints))
 
-pub window-of-spec : {M : Type 1} → statement M
-window-of-spec = tie.close (tie.spec returns returns-2 returns-3 returns-4 returns-5)
+pub window-state-spec : {M : Type 1} → statement M
+window-state-spec = tie.close (tie.spec returns returns-2 returns-3 returns-4 returns-5)
