@@ -127,10 +127,10 @@ pub fn last_dates(line: &[u8], at: usize) -> Dates
     let DateAt::Of(end, next) = read_date(line, second) else {
         return Dates::Absent;
     };
-    let Word::After(after) = word_at(line, next, b"))") else {
+    let Word::After(last) = word_at(line, next, b"))") else {
         return Dates::Absent;
     };
-    let End::Here = end_at(line, after) else {
+    let End::Here = end_at(line, last) else {
         return Dates::Absent;
     };
     Dates::Of(start, end)

@@ -85,8 +85,8 @@ slice-aggregate-word-at-3 c = search needs
 word-at-requires-3 : tie.Need-word-at-requires-3
 word-at-requires-3 c κs = search needs
 
-enum-known-after : tie.Need-enum-known-after
-enum-known-after c = search needs
+enum-known-last : tie.Need-enum-known-last
+enum-known-last c = search needs
 
 enum-told-5 : tie.Need-enum-told-5
 enum-told-5 c = search needs
@@ -119,7 +119,7 @@ returns-6 c =
       sym (c .before .before .before .before .before .before .before .before .before .before .before .before .before .before .before .before .before .before .before .before .read-date .ensures) ∙ c .before .before .before .before .before .before .before .before .before .before .before .before .before .before .before .before .before .before .start .given .1,
       sym (c .before .before .before .before .before .before .before .before .before .before .before .before .before .before .before .word-at2 .ensures) ∙ c .before .before .before .before .before .before .before .before .before .before .before .before .before .second .given .1,
       sym (c .before .before .before .before .before .before .before .before .before .before .before .read-date2 .ensures) ∙ c .before .before .before .before .before .before .before .before .before .end .given .1,
-      sym (c .before .before .before .before .before .before .word-at3 .ensures) ∙ c .before .before .before .before .after .given .1,
+      sym (c .before .before .before .before .before .before .word-at3 .ensures) ∙ c .before .before .before .before .last .given .1,
       sym (c .before .before .end-at .ensures) ∙ c .enum-told7 .given .1,
     )
 
@@ -131,7 +131,7 @@ returns-7 c =
       sym (c .before .before .before .before .before .before .before .before .before .before .before .before .before .before .before .before .before .before .before .before .read-date .ensures) ∙ c .before .before .before .before .before .before .before .before .before .before .before .before .before .before .before .before .before .before .start .given .1,
       sym (c .before .before .before .before .before .before .before .before .before .before .before .before .before .before .before .word-at2 .ensures) ∙ c .before .before .before .before .before .before .before .before .before .before .before .before .before .second .given .1,
       sym (c .before .before .before .before .before .before .before .before .before .before .before .read-date2 .ensures) ∙ c .before .before .before .before .before .before .before .before .before .end .given .1,
-      sym (c .before .before .before .before .before .before .word-at3 .ensures) ∙ c .before .before .before .before .after .given .1,
+      sym (c .before .before .before .before .before .before .word-at3 .ensures) ∙ c .before .before .before .before .last .given .1,
       sym (c .before .before .end-at .ensures) ∙ c .enum-told6 .given .1,
     )
 
@@ -159,7 +159,7 @@ last-dates-spec =
     returns-4
     slice-aggregate-word-at-3
     word-at-requires-3
-    enum-known-after
+    enum-known-last
     enum-told-5
     returns-5
     end-at-requires
