@@ -1,8 +1,8 @@
 // Months: how long they are, and the days of those before.
+use crate::years::is_leap;
 ghost use mathlib.Core.Path.{_≡_};
 ghost use Prim.Native.Nat.{_+_, _<_, _≤_};
-ghost use Rattle.calendar.specs.Calendar.{leap, yearLength, monthLength, daysOfMonths};
-use crate::years::is_leap;
+ghost use Rattle.calendar.specs.Calendar.{yearLength, monthLength, daysOfMonths};
 
 // Only February's length depends on the year.
 pub(crate) fn month_length(year: u32, month: u32) -> u32

@@ -1,6 +1,6 @@
 // Years: which are leap, and the days of those before.
 ghost use mathlib.Core.Path.{_≡_};
-ghost use Prim.Native.Nat.{_+_, _-_, _<_, _≤_};
+ghost use Prim.Native.Nat.{_+_, _<_, _≤_};
 ghost use Rattle.calendar.specs.Calendar.{leap, daysOfYears};
 
 pub(crate) const FIRST_YEAR: u32 = 1900;

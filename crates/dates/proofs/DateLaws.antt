@@ -7,16 +7,16 @@ use native.Mathlib.Omega.{arith}
 use borrow.Author.Tests.{le-leb, leb-true, leb-false, lt-leb}
 use lib.Dec.{leb}
 use lib.ListN.{length, drop, getD, length-drop, length-append}
-use lib.Seq.{drop-cons, drop-drop, drop-at}
+use lib.Seq.{drop-cons, drop-drop}
 use Rattle.bits.specs.Choice.{choose}
 use Rattle.bits.proofs.Tests.{both, by-test}
 use Rattle.text.specs.Words.{bytes, wordAt, Stands}
 use Rattle.text.specs.declared.words.Word.{Word}
 use Rattle.text.specs.declared.words.Word.the-variants.{After, Other}
-use Rattle.text.proofs.WordLaws.{word-found, found-word}
+use Rattle.text.proofs.WordLaws.{word-found, found-word, rest-is}
 use Rattle.numeral.specs.Reading.{isDigit}
 use Rattle.digits.specs.Width.{lastDigits}
-use Rattle.digits.proofs.WidthLaws.{length-last, last-join}
+use Rattle.digits.proofs.WidthLaws.{length-last, last-join, last-two}
 use Rattle.dates.specs.DateReading.{twoOf, twoAt, afterTwo, afterByte, dayAt, timeAt, afterDay, afterTime, dateAt}
 use Rattle.dates.proofs.PlacedLaws.{date-length}
 use Rattle.dates.specs.DateText.{dayText, timeText, dateText, DateSpelling}
@@ -84,10 +84,6 @@ here-word : (line : List ℕ) (at : ℕ) (w : List ℕ) (next : ℕ) → wordAt 
 here-word line at w next e = let f = found-word line at w next e in record { stands = f .1; after = f .0 }
 
 -- two digits and their number
-last-two : (n : ℕ) → lastDigits 2 n ≡ (48 + n / 10 % 10) ∷ (48 + n % 10) ∷ []
-unfolding lastDigits
-last-two n = refl
-
 record HereTwo (line : List ℕ) (at n next : ℕ) : Type 0 where
   small : n < 100
   here : Here line at (lastDigits 2 n) next
@@ -278,10 +274,6 @@ read-date line at d next e = by-day (dayAt line at) refl e
         by-time year month day from (b .next) (day-here line at year month day from p) (b .found) (timeAt line (b .next)) refl (b .goes-on)
 
 -- ---- a spelling is read
-
--- the line from the place after the bytes
-rest-is : (line : List ℕ) (at : ℕ) (s rest : List ℕ) → drop at line ≡ s ++ rest → drop (at + length s) line ≡ rest
-rest-is line at s rest e = sym (drop-drop (length s) at line) ∙ ap (λ (x : List ℕ). drop (length s) x) e ∙ drop-at s rest (length s) refl
 
 two-read : (line : List ℕ) (at n : ℕ) (rest : List ℕ) → n < 100 → drop at line ≡ lastDigits 2 n ++ rest → twoAt line at ≡ T.Of n (at + 2)
 unfolding twoAt

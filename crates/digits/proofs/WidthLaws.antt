@@ -71,7 +71,7 @@ last-parts j k n =
     ap (lastDigits (j + k)) (sym (div-add-mod' n (10 ^ k))) ∙ last-join j k (n / 10 ^ k) (n % 10 ^ k) (mod-lt n (one-le-pow k 10 (omega arith)))
 
 -- two digits stored at a place and at the next one
-last-two : (n : ℕ) → lastDigits 2 n ≡ (48 + n / 10 % 10) ∷ (48 + n % 10) ∷ []
+pub last-two : (n : ℕ) → lastDigits 2 n ≡ (48 + n / 10 % 10) ∷ (48 + n % 10) ∷ []
 unfolding lastDigits
 last-two n = refl
 

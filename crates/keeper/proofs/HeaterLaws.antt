@@ -1,16 +1,14 @@
 -- Document 02, order 3, of a keeper and two dates: the word of an accepted window is the one that says what is so of every moment from the
 -- keeper's lower through its upper edge, as they are told (`window-told`).
 use mathlib.Core.Path.{_≡_, sym, ap, _∙_}
-use mathlib.Core.Bool.{true, _&&_}
+use mathlib.Core.Bool.{true}
 use mathlib.Core.Logic.{_↔_}
 use Prim.Native.Nat.{ℕ}
-use lib.Signed.{leZ, ltZ, _≤ℤ_}
+use lib.Signed.{ltZ}
 use borrow.Author.Tests.{not-false}
-use Rattle.bits.proofs.Tests.{both}
-use Rattle.moment.specs.Moment.{inRange}
-use Rattle.moment.specs.Intervals.{interval, edgesWithin}
-use Rattle.moment.specs.declared.Interval.{Interval}
+use Rattle.moment.specs.Intervals.{interval}
 use Rattle.moment.proofs.Integers.{ints}
+use Rattle.moment.proofs.Within.{within-read}
 use Rattle.calendar.specs.Conversion.{momentOf}
 use Rattle.calendar.specs.declared.Date.{Date}
 use Rattle.rules.specs.Rules.{told}
@@ -28,10 +26,6 @@ use Rattle.keeper.proofs.Causes.{accepted-none}
 use Rattle.keeper.proofs.CallLaws.{apply-accepted}
 use Rattle.keeper.proofs.StartedLaws.{started-read}
 
-in-order : (e : Interval) → edgesWithin e ≡ true → e .lower ≤ℤ e .upper
-unfolding edgesWithin
-in-order e h = let k = both (inRange (e .lower) && inRange (e .upper)) (leZ (e .lower) (e .upper)) h .1 in omega ints
-
 heater-is : {slot : ℕ} {a b : WindowState} → (A.Heater slot a ≡ A.Heater slot b) ↔ (a ≡ b)
 heater-is {slot} = (λ h. cc, λ h. ap (λ (w : WindowState). A.Heater slot w) h)
 
@@ -42,6 +36,6 @@ window-told k slot begins ends none w =
     let c = accepted-none (stateOf k) (C.Window slot begins ends) none in
     let later : ltZ (momentOf begins) (momentOf ends) ≡ true = not-false _ (c .1 .1 .0) in
     let start : countsAsStarted k ≡ true = not-false _ (c .1 .1 .1 .0) in
-    let s = window-says (interval (momentOf begins) (momentOf ends)) (k .edges) (in-order (k .edges) (started-read k start .edges)) (omega ints) w in
+    let s = window-says (interval (momentOf begins) (momentOf ends)) (k .edges) (within-read (k .edges) (started-read k start .edges) .order) (omega ints) w in
     let is = ap (λ (o : _). o .answer) (apply-accepted k (C.Window slot begins ends) none) in
     (λ h. s .0 (heater-is .0 (sym is ∙ h)), λ h. is ∙ heater-is .1 (s .1 h))

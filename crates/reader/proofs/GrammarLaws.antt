@@ -12,7 +12,7 @@ use Rattle.bits.proofs.Tests.{both}
 use Rattle.text.specs.Words.{bytes, wordAt, startsWith}
 use Rattle.text.specs.declared.words.Word.{Word}
 use Rattle.text.specs.declared.words.Word.the-variants.{After, Other}
-use Rattle.text.proofs.WordLaws.{word-found, word-other, found-word}
+use Rattle.text.proofs.WordLaws.{word-found, word-other, found-word, rest-is}
 use Rattle.command.specs.Forms as F
 use Rattle.command.specs.Forms.{Form, Spells, parts, IsSpelling}
 use Rattle.command.specs.Limits.{keeps, commandOf, formOf, numberOf, limited}
@@ -26,7 +26,7 @@ use Rattle.command.specs.declared.Command.the-variants as C
 use Rattle.command.specs.declared.Reading.{Reading}
 use Rattle.command.specs.declared.Reading.the-variants.{Accepted, NoShape, OutsideLimits}
 use Rattle.command.proofs.LimitLaws.{limited-keeps, limited-breaks}
-use Rattle.shapes.proofs.PartLaws.{partsOf, sound, complete, apart, rest-is}
+use Rattle.shapes.proofs.PartLaws.{partsOf, sound, complete, apart}
 
 -- ---- what is parsed is a spelling
 

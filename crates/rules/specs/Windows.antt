@@ -27,8 +27,8 @@ Says Open window edges = AllInside window edges
 Says Shut window edges = NoneInside window edges
 Says Unsure window edges = (AllInside window edges → ⊥) × (NoneInside window edges → ⊥)
 
--- The word, by comparing the ends of the window with the edges. For edges in order and a window that ends after it begins it is the word that says what is so, and the only one
--- (`window-says` of proofs/WindowLaws.antt).
+-- The word, by comparing the ends of the window with the edges. For edges in order and a window that ends after it begins it is the word that says
+-- what is so, and the only one (`window-says` of proofs/WindowLaws.antt).
 unfoldable pub windowState : Interval → Interval → WindowState
 windowState window edges =
     choose

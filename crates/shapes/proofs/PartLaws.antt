@@ -9,12 +9,11 @@ use native.Mathlib.Omega.{arith}
 use borrow.Author.Tests.{le-leb, lt-leb, leb-true}
 use lib.Dec.{leb}
 use lib.ListN.{length, drop, length-drop, drop-of-length-le}
-use lib.Seq.{drop-drop, drop-at}
 use Rattle.bits.proofs.Tests.{both}
 use Rattle.text.specs.Words.{bytes, wordAt, startsWith}
 use Rattle.text.specs.declared.words.Word.{Word}
 use Rattle.text.specs.declared.words.Word.the-variants.{After, Other}
-use Rattle.text.proofs.WordLaws.{word-found, word-other, found-word}
+use Rattle.text.proofs.WordLaws.{word-found, word-other, found-word, rest-is}
 use Rattle.numeral.specs.Reading.{goesOn, numeralEnds, numberAt, signedAt, integer}
 use Rattle.numeral.specs.declared.read.Number.{Number}
 use Rattle.numeral.specs.declared.read.Number.the-variants as N
@@ -174,10 +173,6 @@ ends-apart (rule ∷ ks) v rest e (s, more, p, f, h) = go (v .0) p
 ends-apart (number ∷ ks) v rest e h = absurd (let k : _≡_ {A = ℕ} 0 1 = cc in omega arith)
 ends-apart (edge ∷ ks) v rest e h = absurd (let k : _≡_ {A = ℕ} 0 1 = cc in omega arith)
 ends-apart (date ∷ ks) v rest e h = absurd (let k : _≡_ {A = ℕ} 0 1 = cc in omega arith)
-
--- the line from the place after the bytes
-pub rest-is : (line : List ℕ) (at : ℕ) (s rest : List ℕ) → drop at line ≡ s ++ rest → drop (at + length s) line ≡ rest
-rest-is line at s rest e = sym (drop-drop (length s) at line) ∙ ap (λ (x : List ℕ). drop (length s) x) e ∙ drop-at s rest (length s) refl
 
 -- a rule's text is read as that rule
 rule-read : (r : Rule) (line : List ℕ) (at : ℕ) (rest : List ℕ) → drop at line ≡ bytes (ruleText r) ++ rest → ruleAt line at ≡ R.Of r (at + length (bytes (ruleText r)))

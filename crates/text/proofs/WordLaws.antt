@@ -9,7 +9,7 @@ use native.Mathlib.Omega.{arith}
 use borrow.Author.Tests.{eq-eqb, ne-eqb, eqb-true}
 use lib.Dec.{eqb}
 use lib.ListN.{length, getD, drop, length-drop}
-use lib.Seq.{drop-cons, drop-drop}
+use lib.Seq.{drop-cons, drop-drop, drop-at}
 use Rattle.text.specs.Words.{startsWith, wordAt}
 use Rattle.text.specs.declared.words.Word.the-variants.{After, Other}
 use Rattle.bits.specs.Choice.{choose}
@@ -81,3 +81,7 @@ found-word line at w next e = go (startsWith w (drop at line)) refl e
         let n : next ≡ at + length w = cc in
         (n, starts-rest w (drop at line) s ∙ ap (λ (r : List ℕ). w ++ r) (drop-drop (length w) at line ∙ ap (λ (k : ℕ). drop k line) (sym n)))
     go false s h = absurd (let z : _≡_ {A = ℕ} 0 1 = cc in omega arith)
+
+-- the line from the place after the bytes
+pub rest-is : (line : List ℕ) (at : ℕ) (s rest : List ℕ) → drop at line ≡ s ++ rest → drop (at + length s) line ≡ rest
+rest-is line at s rest e = sym (drop-drop (length s) at line) ∙ ap (λ (x : List ℕ). drop (length s) x) e ∙ drop-at s rest (length s) refl
