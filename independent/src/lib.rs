@@ -19,6 +19,7 @@ mod image;
 mod interval;
 mod keeper;
 pub mod limits;
+mod numeral;
 mod reader;
 mod refusal;
 mod spelling;

@@ -33,8 +33,8 @@ pub const FIRST_YEAR: u64 = 1900;
 pub const LAST_YEAR: u64 = 2099;
 
 /// Longest line in bytes, without its LF.
-pub const MAX_LINE: usize = 120;
-/// Most digits in a numeral, its sign not counted.
+pub const MAX_LINE: usize = 160;
+/// Most digits in a numeral; its sign and each `_` are not counted.
 pub const MAX_DIGITS: usize = 19;
 /// Shortest output that a caller may lend. The longest answer is a `waiting`
 /// line with fifteen peers; it has 211 bytes with its LF.

@@ -1,7 +1,7 @@
 //! Reading the parts of a line from left to right.
 
 use crate::interval::Interval;
-use crate::limits::MAX_DIGITS;
+use crate::numeral;
 use crate::refusal::Refusal;
 
 /// The part of a line that is not read yet.
@@ -43,43 +43,27 @@ impl<'a> Reader<'a> {
         }
     }
 
-    /// Takes a numeral without a sign. Nineteen digits always fit in u64.
-    ///
-    /// A digit after a leading zero, or after the nineteenth digit, is left in
-    /// the rest. No shape has a digit after a numeral, so the caller's next
-    /// step refuses it.
+    /// Takes a numeral without a sign.
     pub fn count(&mut self) -> Result<u64, Refusal> {
-        let mut value = 0;
-        let mut length = 0;
-        for &byte in self.rest.iter().take(MAX_DIGITS) {
-            if !byte.is_ascii_digit() {
-                break;
-            }
-            value = value * 10 + u64::from(byte - b'0');
-            length += 1;
-            if value == 0 {
-                break;
-            }
-        }
-        if length == 0 {
-            return Err(Refusal::Shape);
-        }
-        self.rest = &self.rest[length..];
-        Ok(value)
+        numeral::unsigned(self.word()).ok_or(Refusal::Shape)
     }
 
-    /// Takes a numeral that may be negative.
-    ///
-    /// A magnitude above `i64::MAX` becomes `i64::MAX`. Both are outside the
-    /// range of moments, so the caller refuses the one as it would the other.
+    /// Takes a numeral that may be negative: "Only edges may be negative".
     fn edge(&mut self) -> Result<i64, Refusal> {
-        let negative = self.take(b"-");
-        let magnitude = self.count()?;
-        if negative && magnitude == 0 {
-            return Err(Refusal::Shape);
-        }
-        let value = i64::try_from(magnitude).unwrap_or(i64::MAX);
-        Ok(if negative { -value } else { value })
+        numeral::signed(self.word()).ok_or(Refusal::Shape)
+    }
+
+    /// Takes the bytes up to the next space or closing bracket. In every shape
+    /// one of the two follows a numeral. All bytes before it are judged
+    /// together, so that no numeral ends where a stranger begins.
+    fn word(&mut self) -> &'a [u8] {
+        let end = self
+            .rest
+            .iter()
+            .position(|&byte| byte == b' ' || byte == b')');
+        let (word, rest) = self.rest.split_at(end.unwrap_or(self.rest.len()));
+        self.rest = rest;
+        word
     }
 
     /// Takes `YYYY-MM-DDTHH:MM:SS` and returns the six fields in this order.
@@ -101,8 +85,9 @@ impl<'a> Reader<'a> {
         Ok([year, month, day, hour, minute, second])
     }
 
-    /// Takes a field of a date, which has `N` digits: "with every field at full
-    /// width".
+    /// Takes a field of a date, which has `N` digits, "with every field at full
+    /// width". It is no numeral: it may begin with a zero, and "dates take no
+    /// `_`".
     fn field<const N: usize>(&mut self) -> Result<u64, Refusal> {
         let Some((digits, rest)) = self.rest.split_first_chunk::<N>() else {
             return Err(Refusal::Shape);

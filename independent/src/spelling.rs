@@ -1,4 +1,4 @@
-//! The line of a command, without an LF.
+//! The line of a command, without an LF and without `_`: its plain spelling.
 //!
 //! A command holds only numbers within their ranges and dates that exist, so
 //! every line written here is read as the same command again.

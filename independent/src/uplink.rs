@@ -74,8 +74,9 @@ pub fn write_window(out: &mut [u8], slot: u64, start: [u64; 6], end: [u64; 6]) -
     write(out, Command::window(slot, start, end))
 }
 
-/// Reads a line, given without its LF, and writes the command that it is. A
-/// command has one spelling, so the bytes written are those of the line.
+/// Reads a line, given without its LF, and writes the command that it is: "a
+/// line read and written gives the plain spelling". Only grouped numerals have
+/// another, so a line without `_` gives its own bytes.
 pub fn plain(line: &[u8], out: &mut [u8]) -> Written {
     write(out, Command::read(line))
 }

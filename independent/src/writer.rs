@@ -25,6 +25,8 @@ impl<'a> Writer<'a> {
         self.next(N).copy_from_slice(text);
     }
 
+    /// A numeral in its plain spelling. No answer and no written command has
+    /// another.
     pub fn count(&mut self, value: u64) {
         let width = value.checked_ilog10().unwrap_or(0) as usize + 1;
         self.digits(value, width);

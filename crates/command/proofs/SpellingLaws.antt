@@ -1,5 +1,5 @@
 -- The plain spelling of a form that no cause of its own refuses is a spelling in the sense of the grammar (`plain-spells`), and a spelling of a
--- form is its plain spelling (`spelling-plain`). Both by the parts, one after the other.
+-- form, without its `_`, is its plain spelling (`spelling-plain`). Both by the parts, one after the other.
 use mathlib.Core.Path.{_≡_, refl, ap, _∙_}
 use mathlib.Core.Bool.{Bool, true, false, not, _&&_}
 use mathlib.Core.List.{List, [], _∷_, _++_}
@@ -15,7 +15,10 @@ use Rattle.bits.proofs.Tests.{both}
 use Rattle.text.specs.Words.{bytes}
 use Rattle.numeral.specs.Digits.{signedDigits}
 use Rattle.numeral.proofs.Digits.{digits-most}
-use Rattle.numeral.proofs.RoundTrip.{digits-numeral, signed-numeral, signed-spelling}
+use Rattle.numeral.specs.Groups.{bare}
+use Rattle.numeral.proofs.GroupLaws.{bare-append, bare-same}
+use Rattle.numeral.proofs.Numerals.{numeral-bare, numeral-most}
+use Rattle.numeral.proofs.RoundTrip.{digits-numeral, signed-numeral, signed-bare, signed-most}
 use Rattle.moment.specs.declared.Interval.{Interval}
 use Rattle.moment.specs.Moment.{inRange}
 use Rattle.moment.specs.Intervals.{edgesWithin}
@@ -34,25 +37,32 @@ use Rattle.command.specs.Forms.{Form, Part, text, rule, number, edge, da
 use Rattle.command.specs.Spelling.{plainPart, plainParts, plainSpelling}
 use Rattle.command.specs.Limits.{keeps, boardWithin, claimWithin, ticksWithin, tagWithin, slotWithin}
 use Rattle.command.specs.Causes.{Cause, cause, first, formCauses, dateCauses}
+use Rattle.command.proofs.PlainBytes.{plain-carries, TextPlain, TextsPlain, part-bytes, form-texts}
 
--- ---- a spelling is the plain one
+-- ---- a spelling without its `_` is the plain one
 
-part-plain : (p : Part) (s : List ℕ) → IsPart p s → s ≡ plainPart p
-part-plain (text t) s h = h
-part-plain (rule r) s h = h
-part-plain (number n) s h = h .spelling
-part-plain (edge z) s h = signed-spelling z s h
-part-plain (date d) s h = h .spelling
+plain-bare : (p : Part) → TextPlain p → bare (plainPart p) ≡ plainPart p
+plain-bare p h = bare-same (plainPart p) (plain-carries (plainPart p) (part-bytes p h))
 
-parts-plain : (ps : List Part) (line : List ℕ) → Spells ps line → line ≡ plainParts ps
-unfolding plainParts
-parts-plain [] line h = h
-parts-plain (p ∷ ps) line (s, rest, this, whole, others) =
-    whole ∙ ap (λ (x : List ℕ). x ++ rest) (part-plain p s this) ∙ ap (λ (x : List ℕ). plainPart p ++ x) (parts-plain ps rest others)
+part-bare : (p : Part) (s : List ℕ) → TextPlain p → IsPart p s → bare s ≡ plainPart p
+part-bare (text t) s q h = ap bare h ∙ plain-bare (text t) q
+part-bare (rule r) s q h = ap bare h ∙ plain-bare (rule r) q
+part-bare (number n) s q h = numeral-bare n s h
+part-bare (edge z) s q h = signed-bare z s h
+part-bare (date d) s q h = ap bare (h .spelling) ∙ plain-bare (date d) q
 
-pub spelling-plain : (f : Form) (line : List ℕ) → IsSpelling f line → line ≡ plainSpelling f
+parts-bare : (ps : List Part) (line : List ℕ) → TextsPlain ps → Spells ps line → bare line ≡ plainParts ps
+unfolding plainParts bare
+parts-bare [] line q h = ap bare h
+parts-bare (p ∷ ps) line q (s, rest, this, whole, others) =
+    ap bare whole
+    ∙ bare-append s rest
+    ∙ ap (λ (x : List ℕ). x ++ bare rest) (part-bare p s (q .0) this)
+    ∙ ap (λ (x : List ℕ). plainPart p ++ x) (parts-bare ps rest (q .1) others)
+
+pub spelling-plain : (f : Form) (line : List ℕ) → IsSpelling f line → bare line ≡ plainSpelling f
 unfolding plainSpelling
-spelling-plain f line h = parts-plain (parts f) line h
+spelling-plain f line h = parts-bare (parts f) line (form-texts f) h
 
 -- ---- the plain spelling is one, where every number has a numeral
 
@@ -218,3 +228,42 @@ small-most (F.window slot begins ends) (s, b, e) = omega (arith, digits-most 1 s
 pub plain-most : (f : Form) → first (formCauses f) ≡ 0 → length (plainSpelling f) ≤ 63
 unfolding plainSpelling
 plain-most f h = omega (arith, parts-length (parts f), small-most f (uncaused-small f h))
+
+-- ---- the longest spelling
+
+abbrev most : Part → ℕ
+most (text t) = length (bytes t)
+most (rule r) = 4
+most (number n) = 25
+most (edge z) = 26
+most (date d) = 19
+
+abbrev mostOf : List Part → ℕ
+mostOf [] = 0
+mostOf (p ∷ ps) = most p + mostOf ps
+
+part-most : (p : Part) (s : List ℕ) → IsPart p s → length s ≤ most p
+part-most (text t) s h = omega (arith, ap length h)
+part-most (rule r) s h = omega (arith, ap length h, rule-length r)
+part-most (number n) s h = numeral-most n s h
+part-most (edge z) s h = signed-most z s h
+part-most (date d) s h = omega (arith, ap length (h .spelling), date-length d)
+
+parts-most : (ps : List Part) (line : List ℕ) → Spells ps line → length line ≤ mostOf ps
+parts-most [] line h = omega (arith, ap length h)
+parts-most (p ∷ ps) line (s, rest, this, whole, others) =
+    omega (arith, ap length whole, length-append s rest, part-most p s this, parts-most ps rest others)
+
+-- no spelling of a form has more than 118 bytes: a start in which four numerals have nineteen digits in groups, and the edges are negative, has as many
+pub spelling-most : (f : Form) (line : List ℕ) → IsSpelling f line → length line ≤ 118
+spelling-most f line h = omega (arith, parts-most (parts f) line h, all f)
+  where
+    all : (f : Form) → mostOf (parts f) ≤ 118
+    all (F.start board r claim edges) = omega arith
+    all (F.pass ticks) = omega arith
+    all (F.request peer) = omega arith
+    all (F.reply peer tag edges) = omega arith
+    all (F.drop peer) = omega arith
+    all F.read = omega arith
+    all F.waiting = omega arith
+    all (F.window slot begins ends) = omega arith

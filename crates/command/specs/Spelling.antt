@@ -21,6 +21,7 @@ plainParts [] = []
 plainParts (p ∷ ps) = plainPart p ++ plainParts ps
 
 -- The plain spelling of a form is that of the parts which the grammar gives it. Of a form that no cause of its own refuses it is a spelling in
--- the sense of the grammar (`plain-spells` of proofs/SpellingLaws.antt), and every spelling of a form is the plain one (`spelling-plain`).
+-- the sense of the grammar (`plain-spells` of proofs/SpellingLaws.antt), and every spelling of a form, without its `_`, is the plain one
+-- (`spelling-plain`).
 unfoldable pub plainSpelling : Form → List ℕ
 plainSpelling f = plainParts (parts f)

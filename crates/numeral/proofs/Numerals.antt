@@ -1,23 +1,31 @@
--- Numerals and their readers. A numeral is what the sentence of document 01 describes (`described`); where one stands and its digits do not
--- go on, it is read as its number (`numeral-read`); and what is read is a numeral of that number (`read-numeral`).
+-- Numerals and their readers. A numeral is what the sentences of the papers describe (`described`); where one stands and its digits do not go on,
+-- it is read as its number (`numeral-read`); and what is read is a numeral of that number (`read-numeral`), whose digits do not go on
+-- (`read-ends`).
 use mathlib.Core.Path.{_≡_, refl, sym, ap, _∙_, subst}
-use mathlib.Core.Bool.{Bool, true, false}
-use mathlib.Core.Logic.{_↔_}
+use mathlib.Core.Bool.{Bool, true, false, not, _&&_}
+use mathlib.Core.Logic.{_↔_, _⊎_, inl, inr}
 use mathlib.Core.List.{List, [], _∷_, _++_, append-assoc, append-nil}
 use Prim.Native.Nat.{ℕ, zero, suc, _+_, _-_, _*_, _/_, _%_, _<_, _≤_}
 use native.Mathlib.Nat.{lt-of-not-le}
 use native.Mathlib.Omega.{arith}
-use borrow.Author.Tests.{ltb-true, ltb-false, leb-true, leb-false}
-use lib.Dec.{leb, ltb}
-use lib.ListN.{length, drop, getD, List·getD-append}
+use borrow.Author.Tests.{ltb-true, ltb-false, leb-true, leb-false, le-leb, not-true, eqb-false, eqb-true}
+use lib.Dec.{leb, ltb, eqb}
+use lib.ListN.{length, drop, getD, length-append, List·getD-append}
 use lib.Seq.{drop-drop}
+use Rattle.bits.proofs.Tests.{clash, by-test, both}
 use Rattle.text.specs.Words.{Stands}
+use Rattle.text.proofs.WordLaws.{rest-is}
 use Rattle.numeral.specs.Digits.{digits}
-use Rattle.numeral.specs.Numerals.{Numeral, AllDigits, none, more, Described}
-use Rattle.numeral.specs.Reading.{isDigit, numeralEnds, run, valueFrom, wellFormed, numberIn, numberAt}
+use Rattle.numeral.specs.Groups.{underscore, grouped, bare}
+use Rattle.numeral.specs.Numerals.{Numeral, AllDigits, none, more, Plain, Groups, end, group, InGroups, Described}
+use Rattle.numeral.specs.Reading.{isDigit, atUnderscore, numeralEnds, run, valueFrom, wellFormed, firstGroup, groupsFrom, numberIn, numberFrom, numberAt}
+use Rattle.numeral.specs.declared.read.Number.{Number}
 use Rattle.numeral.specs.declared.read.Number.the-variants as N
 use Rattle.numeral.proofs.Digits.{digits-one, digits-more, digits-some}
-use Rattle.numeral.proofs.Reading.{is-digit, digit-bounds, run-none, formed-one, formed-more, formed-not-empty, formed-not-long, formed-not-zero}
+use Rattle.numeral.proofs.GroupLaws.{all-append, bare-digits, bare-group, bare-grouped, groups-digits, grouped-is, grouped-length, in-groups-are, Cut, cut}
+use Rattle.numeral.proofs.Reading.{is-digit, digit-bounds, run-none, run-underscore, ends-no-underscore}
+use Rattle.numeral.proofs.GroupReading.{groups-read, groups-back}
+use Rattle.numeral.proofs.Answers.{formed-one, formed-more, formed-not-empty, formed-not-long, formed-not-zero, first-group-some}
 use Rattle.bits.specs.Choice.{choose}
 
 -- ---- the digits of a number, by their last one
@@ -33,10 +41,6 @@ ten-ind P one last n = go (suc n) n (omega arith)
     go : (k n : ℕ) → n < k → P n
     go zero n h = absurd (omega arith)
     go (suc k) n h = by n (ltb n 10) refl (λ (l : 10 ≤ n). go k (n / 10) (omega arith))
-
-all-append : {s t : List ℕ} → AllDigits s → AllDigits t → AllDigits (s ++ t)
-all-append none u = u
-all-append (more p q r) u = more p q (all-append r u)
 
 one-digit : (d : ℕ) → d < 10 → AllDigits ((48 + d) ∷ [])
 one-digit d h = more {b = 48 + d} (omega arith) (omega arith) none
@@ -82,7 +86,7 @@ longer (more {b = b} {s = s} low high r) v p =
     longer r (v * 10 + (b - 48)) (omega arith)
     ∙ rw (digits-more (v * 10 + (b - 48)) ten, front, last) (append-assoc (digits v) (b ∷ []) s)
 
--- ---- a numeral is what the sentence describes
+-- ---- a numeral is what the sentences describe
 
 -- a first digit that may stand alone, and the digits after it
 from-first : (b : ℕ) (s : List ℕ) → 48 ≤ b → b ≤ 57 → AllDigits s → (b ≡ 48 → suc (length s) ≡ 1) → digits (valueFrom 0 (b ∷ s)) ≡ b ∷ s
@@ -111,38 +115,88 @@ from-first b s low high r lead = go (ltb 48 b) refl
         let rest : suc (length s) ≡ 1 = lead zero-first in
         alone s (omega arith)
 
-pub described-value : (s : List ℕ) → Described s → digits (valueFrom 0 s) ≡ s
-described-value s d = go s (d .all) (d .some) (d .lead)
+pub plain-value : (s : List ℕ) → Plain s → digits (valueFrom 0 s) ≡ s
+plain-value s d = go s (d .all) (d .some) (d .lead)
   where
     go : (s : List ℕ) → AllDigits s → 1 ≤ length s → (getD s 0 0 ≡ 48 → length s ≡ 1) → digits (valueFrom 0 s) ≡ s
     go [] a some lead = absurd (omega arith)
     go (b ∷ s) (more low high r) some lead = from-first b s low high r lead
 
--- 'A numeral is 1 to 19 digits, with no leading zero unless it is 0 itself'
-pub described : (s : List ℕ) → Described s ↔ ((n : ℕ) × Numeral n s)
-described s = (to, from)
+digits-plain : (n : ℕ) → length (digits n) ≤ 19 → Plain (digits n)
+digits-plain n h = record { all = digits-all n; some = digits-some n; most = h; lead = led n }
   where
-    to : Described s → (n : ℕ) × Numeral n s
-    to d = (valueFrom 0 s, record { spelling = sym (described-value s d); most = d .most })
-
     led : (n : ℕ) → getD (digits n) 0 0 ≡ 48 → length (digits n) ≡ 1
     led zero e = ap length (digits-one 0 (omega arith))
     led (suc n) e = absurd (digits-lead (suc n) (omega arith) e)
 
-    of : (n : ℕ) → length (digits n) ≤ 19 → Described (digits n)
-    of n h = record { all = digits-all n; some = digits-some n; most = h; lead = led n }
+-- without its `_`, a numeral is the digits of its number
+pub numeral-bare : (n : ℕ) (s : List ℕ) → Numeral n s → bare s ≡ digits n
+numeral-bare n s m = go (m .spelling)
+  where
+    go : (s ≡ digits n) ⊎ (s ≡ grouped (digits n)) → bare s ≡ digits n
+    go (inl e) = ap bare e ∙ bare-digits (digits-all n)
+    go (inr e) = ap bare e ∙ bare-grouped (digits n) (digits-all n) (digits-some n)
+
+-- bytes are a numeral of one number at most
+pub one-number : (m n : ℕ) (s : List ℕ) → Numeral m s → Numeral n s → m ≡ n
+one-number m n s p q = digits-same m n (sym (numeral-bare m s p) ∙ numeral-bare n s q)
+
+-- it has at most 25 bytes: 19 digits and six `_`
+pub numeral-most : (n : ℕ) (s : List ℕ) → Numeral n s → length s ≤ 25
+numeral-most n s m = go (m .spelling)
+  where
+    go : (s ≡ digits n) ⊎ (s ≡ grouped (digits n)) → length s ≤ 25
+    go (inl e) = rw e (omega (arith, m .most))
+    go (inr e) = rw e (omega (arith, m .most, grouped-length (digits n) (digits-some n)))
+
+in-groups : (n : ℕ) → InGroups (grouped (digits n))
+in-groups n =
+    let c = cut (digits n) (digits-all n) (digits-some n) in
+    record { first = c .first; rest = c .rest; whole = c .spelt; all = c .all; some = c .some; most = c .most; groups = c .groups }
+
+-- 'A numeral is 1 to 19 digits, with no leading zero unless it is 0 itself', and 'may now carry `_` between groups of three counted from the right,
+-- either at every group or at none'
+pub described : (s : List ℕ) → Described s ↔ ((n : ℕ) × Numeral n s)
+described s = (to, from)
+  where
+    to : Described s → (n : ℕ) × Numeral n s
+    to d = (valueFrom 0 (bare s), record { spelling = spelt (d .carried); most = rw same (d .plain .most) })
+      where
+        same : digits (valueFrom 0 (bare s)) ≡ bare s
+        same = plain-value (bare s) (d .plain)
+
+        spelt : AllDigits s ⊎ InGroups s → (s ≡ digits (valueFrom 0 (bare s))) ⊎ (s ≡ grouped (digits (valueFrom 0 (bare s))))
+        spelt (inl a) = inl (sym (bare-digits a) ∙ sym same)
+        spelt (inr g) = inr (sym (in-groups-are g) ∙ ap grouped (sym same))
 
     from : (n : ℕ) × Numeral n s → Described s
-    from m =
-        let short : length (digits (m .0)) ≤ 19 = rw (← (m .1 .spelling)) (m .1 .most) in
-        subst Described (sym (m .1 .spelling)) (of (m .0) short)
+    from (n, m) = record { plain = subst Plain (sym (numeral-bare n s m)) (digits-plain n (m .most)); carried = marks (m .spelling) }
+      where
+        marks : (s ≡ digits n) ⊎ (s ≡ grouped (digits n)) → AllDigits s ⊎ InGroups s
+        marks (inl e) = inl (subst AllDigits (sym e) (digits-all n))
+        marks (inr e) = inr (subst InGroups (sym e) (in-groups n))
+
+-- a numeral begins with a digit
+first-digit : {s : List ℕ} → AllDigits s → 1 ≤ length s → (rest : List ℕ) → (b : ℕ) × (t : List ℕ) × (48 ≤ b) × (s ++ rest ≡ b ∷ t)
+first-digit none h rest = absurd (omega arith)
+first-digit (more {b = b} {s = s} low high r) h rest = (b, s ++ rest, low, refl)
+
+pub begins-digit : (n : ℕ) (s : List ℕ) → Numeral n s → (b : ℕ) × (t : List ℕ) × (48 ≤ b) × (s ≡ b ∷ t)
+begins-digit n s m = go (m .spelling)
+  where
+    after : (x y : List ℕ) → s ≡ x ++ y → AllDigits x → 1 ≤ length x → (b : ℕ) × (t : List ℕ) × (48 ≤ b) × (s ≡ b ∷ t)
+    after x y e a h = let (b, t, low, front) = first-digit a h y in (b, t, low, e ∙ front)
+
+    go : (s ≡ digits n) ⊎ (s ≡ grouped (digits n)) → (b : ℕ) × (t : List ℕ) × (48 ≤ b) × (s ≡ b ∷ t)
+    go (inl e) = after (digits n) [] (e ∙ sym (append-nil (digits n))) (digits-all n) (digits-some n)
+    go (inr e) = let g = in-groups n in after (g .first) (g .rest) (e ∙ g .whole) (g .all) (g .some)
 
 -- ---- what the reader answers
 
--- the run of digits that do not go on is all of them
-pub run-all : {s : List ℕ} → AllDigits s → (rest : List ℕ) → numeralEnds rest ≡ true → run (s ++ rest) ≡ s
+-- the run of digits before bytes that begin with none is all of them
+pub run-all : {s : List ℕ} → AllDigits s → (rest : List ℕ) → run rest ≡ [] → run (s ++ rest) ≡ s
 unfolding run
-run-all none rest e = run-none rest e
+run-all none rest e = e
 run-all (more {b = b} {s = s} low high r) rest e = rw (is-digit b low high) (ap (λ (x : List ℕ). b ∷ x) (run-all r rest e))
 
 -- a run is digits, and stands at the front
@@ -165,8 +219,8 @@ run-front (b ∷ s) = go (isDigit b) (run-front s)
     go false r = refl
 
 -- the test is the sentence's, of digits
-formed-described : (r : List ℕ) → AllDigits r → wellFormed r ≡ true → Described r
-formed-described r a e = record { all = a; some = some; most = most; lead = lead }
+formed-plain : (r : List ℕ) → AllDigits r → wellFormed r ≡ true → Plain r
+formed-plain r a e = record { all = a; some = some; most = most; lead = lead }
   where
     wrong : wellFormed r ≡ false → ⊥
     wrong f = let k : _≡_ {A = Bool} true false = cc in let z : _≡_ {A = ℕ} 0 1 = cc in omega arith
@@ -183,65 +237,179 @@ formed-described r a e = record { all = a; some = some; most = most; lead = lead
     lead : getD r 0 0 ≡ 48 → length r ≡ 1
     lead z = omega (arith, some, lt-of-not-le (λ (h : 2 ≤ length r). wrong (formed-not-zero r (omega arith) z)))
 
-described-formed : (r : List ℕ) → Described r → wellFormed r ≡ true
-described-formed r d = by-test (leb (length r) 1) refl
+plain-formed : (r : List ℕ) → Plain r → wellFormed r ≡ true
+plain-formed r d = go (leb (length r) 1) refl
   where
-    by-test : (t : Bool) → leb (length r) 1 ≡ t → wellFormed r ≡ true
-    by-test true h = formed-one r (omega (arith, leb-true (length r) 1 h))
-    by-test false h =
+    go : (t : Bool) → leb (length r) 1 ≡ t → wellFormed r ≡ true
+    go true h = formed-one r (omega (arith, leb-true (length r) 1 h))
+    go false h =
         let several : 1 < length r = leb-false (length r) 1 h in
         formed-more r several (d .most) (λ z. let single : length r ≡ 1 = d .lead z in omega arith)
+
+-- the digits before the first `_` are one to three, and the first is not 0
+first-group-back : (r : List ℕ) → firstGroup r ≡ true → (1 ≤ length r) × (length r ≤ 3) × (getD r 0 0 ≡ 48 → ⊥)
+unfolding firstGroup
+first-group-back r e =
+    let (some, others) = both (leb 1 (length r)) (leb (length r) 3 && not (eqb (getD r 0 0) 48)) e in
+    let (most, lead) = both (leb (length r) 3) (not (eqb (getD r 0 0) 48)) others in
+    (leb-true 1 (length r) some, leb-true (length r) 3 most, eqb-false (getD r 0 0) 48 (not-true (eqb (getD r 0 0) 48) lead))
+
+value-append : (v : ℕ) (s t : List ℕ) → valueFrom v (s ++ t) ≡ valueFrom (valueFrom v s) t
+unfolding valueFrom
+value-append v [] t = refl
+value-append v (b ∷ s) t = value-append (v * 10 + (b - 48)) s t
+
+-- ---- a numeral is read
+
+module _ (line : List ℕ) (at n : ℕ) (rest : List ℕ) (small : length (digits n) ≤ 19) (ends : numeralEnds rest ≡ true) where
+  plain-read : drop at line ≡ digits n ++ rest → numberAt line at ≡ N.Of n (at + length (digits n))
+  unfolding numberAt numberFrom numberIn
+  plain-read e =
+      rw (e, run-all (digits-all n) rest (run-none rest ends), rest-is line at (digits n) rest e, ends-no-underscore rest ends, plain-formed (digits n) (digits-plain n small), value-digits n)
+
+  -- a first group, and at least one more
+  in-groups-read : (first s : List ℕ) → AllDigits first → 1 ≤ length first → length first ≤ 3 → Groups s → digits n ≡ first ++ bare s → atUnderscore (s ++ rest) ≡ true → 1 ≤ length (bare s)
+      → drop at line ≡ first ++ (s ++ rest) → numberAt line at ≡ N.Of n (at + length (first ++ s))
+  unfolding numberAt numberFrom
+  in-groups-read first s all some most g spelt mark more-digits e =
+      let long : length (digits n) ≡ length first + length (bare s) = ap length spelt ∙ length-append first (bare s) in
+      let lead : getD first 0 0 ≡ 48 → ⊥ = λ z. (
+      let single : length (digits n) ≡ 1 = digits-plain n small .lead (ap (λ (x : List ℕ). getD x 0 0) spelt ∙ List·getD-append first (bare s) 0 0 some ∙ z) in
+      omega (arith, single, long)
+      ) in
+      let value : valueFrom (valueFrom 0 first) (bare s) ≡ n = sym (value-append 0 first (bare s)) ∙ ap (valueFrom 0) (sym spelt) ∙ value-digits n in
+      let place : at + length first + length s ≡ at + length (first ++ s) = omega (arith, length-append first s) in
+      rw (e, run-all all (s ++ rest) (run-underscore (s ++ rest) mark), rest-is line at first (s ++ rest) e, mark, first-group-some first some most lead)
+      (groups-read g (valueFrom 0 first) (length first) (at + length first) rest ends (omega (arith, long)) ∙ rw (value, place))
+
+  grouped-read : drop at line ≡ grouped (digits n) ++ rest → numberAt line at ≡ N.Of n (at + length (grouped (digits n)))
+  unfolding bare
+  grouped-read e = go (c .rest) (c .groups) (c .digits) (c .spelt)
+    where
+      c : Cut (digits n)
+      c = cut (digits n) (digits-all n) (digits-some n)
+
+      go : (s : List ℕ) → Groups s → digits n ≡ c .first ++ bare s → grouped (digits n) ≡ c .first ++ s → numberAt line at ≡ N.Of n (at + length (grouped (digits n)))
+      go s end p q =
+          let same : grouped (digits n) ≡ digits n = q ∙ sym p in
+          rw same (plain-read (e ∙ ap (λ (x : List ℕ). x ++ rest) same))
+      go s (group {s = t} d g) p q =
+          let front : drop at line ≡ c .first ++ (s ++ rest) = e ∙ ap (λ (x : List ℕ). x ++ rest) q ∙ append-assoc (c .first) s rest in
+          in-groups-read (c .first) s (c .all) (c .some) (c .most) (group d g) p refl (omega (arith, ap length (bare-group t d))) front ∙ rw q
 
 -- a numeral that stands at a place, and whose digits do not go on, is read as its number
 pub numeral-read : (line : List ℕ) (at n : ℕ) (s rest : List ℕ)
     → Numeral n s → drop at line ≡ s ++ rest → numeralEnds rest ≡ true → numberAt line at ≡ N.Of n (at + length s)
-unfolding numberAt numberIn
-numeral-read line at n s rest m e f =
-    let d : Described s = described s .1 (n, m) in
-    let value : valueFrom 0 s ≡ n = ap (valueFrom 0) (m .spelling) ∙ value-digits n in
-    rw (e, run-all (d .all) rest f, described-formed s d, value)
-
--- what is read is a numeral, and the place given is the one after it
-pub read-numeral : (line : List ℕ) (at n next : ℕ) → numberAt line at ≡ N.Of n next → Stands (Numeral n) line at next
-unfolding numberAt numberIn
-read-numeral line at n next e = go (wellFormed r) refl e
+numeral-read line at n s rest m e f = go (m .spelling)
   where
-    r : List ℕ
-    r = run (drop at line)
+    go : (s ≡ digits n) ⊎ (s ≡ grouped (digits n)) → numberAt line at ≡ N.Of n (at + length s)
+    go (inl p) = rw p (plain-read line at n rest (m .most) f (e ∙ ap (λ (x : List ℕ). x ++ rest) p))
+    go (inr p) = rw p (grouped-read line at n rest (m .most) f (e ∙ ap (λ (x : List ℕ). x ++ rest) p))
 
-    go : (t : Bool) → wellFormed r ≡ t → choose t (λ _. N.Of (valueFrom 0 r) (at + length r)) (λ _. N.Absent) ≡ N.Of n next → Stands (Numeral n) line at next
-    go false w h = absurd (let k : _≡_ {A = ℕ} 0 1 = cc in omega arith)
-    go true w h =
-        let d : Described r = formed-described r (run-digits (drop at line)) w in
-        let value : valueFrom 0 r ≡ n = cc in
-        let place : at + length r ≡ next = cc in
-        record {
-          bytes = r;
-          kind = record { spelling = sym (described-value r d) ∙ ap digits value; most = d .most };
-          here = run-front (drop at line) ∙ ap (λ (x : List ℕ). r ++ x) (drop-drop (length r) at line ∙ ap (λ (k : ℕ). drop k line) place);
-          after = sym place;
-        }
+-- ---- what is read is a numeral
 
--- a run of digits does not go on
-run-ends : (s : List ℕ) → numeralEnds (drop (length (run s)) s) ≡ true
+-- a run of digits that no `_` follows does not go on
+run-ends : (s : List ℕ) → atUnderscore (drop (length (run s)) s) ≡ false → numeralEnds (drop (length (run s)) s) ≡ true
 unfolding run
-run-ends [] = refl
-run-ends (b ∷ s) = go (isDigit b) refl (run-ends s)
+run-ends [] m = refl
+run-ends (b ∷ s) m = go (isDigit b) refl m (run-ends s)
   where
-    go : (t : Bool) → isDigit b ≡ t → numeralEnds (drop (length (run s)) s) ≡ true → numeralEnds (drop (length (choose t (λ _. b ∷ run s) (λ _. []))) (b ∷ s)) ≡ true
-    go true e r = r
-    go false e r = rw e
+    go : (t : Bool) → isDigit b ≡ t → atUnderscore (drop (length (choose t (λ _. b ∷ run s) (λ _. []))) (b ∷ s)) ≡ false
+        → (atUnderscore (drop (length (run s)) s) ≡ false → numeralEnds (drop (length (run s)) s) ≡ true)
+        → numeralEnds (drop (length (choose t (λ _. b ∷ run s) (λ _. []))) (b ∷ s)) ≡ true
+    go true e m r = r m
+    go false e m r = rw (e, m)
 
--- after a numeral that is read no digit stands
-pub read-ends : (line : List ℕ) (at n next : ℕ) → numberAt line at ≡ N.Of n next → numeralEnds (drop next line) ≡ true
-unfolding numberAt numberIn
-read-ends line at n next e = go (wellFormed r) refl e
-  where
-    r : List ℕ
-    r = run (drop at line)
+-- a numeral that was read, and what follows it
+record NumeralRead (line : List ℕ) (at n next : ℕ) : Type 0 where
+  stands : Stands (Numeral n) line at next
+  ends : numeralEnds (drop next line) ≡ true
 
-    go : (t : Bool) → wellFormed r ≡ t → choose t (λ _. N.Of (valueFrom 0 r) (at + length r)) (λ _. N.Absent) ≡ N.Of n next → numeralEnds (drop next line) ≡ true
-    go false w h = absurd (let k : _≡_ {A = ℕ} 0 1 = cc in omega arith)
-    go true w h =
-        let place : at + length r ≡ next = cc in
-        rw (← place, ← drop-drop (length r) at line) (run-ends (drop at line))
+module _ (line : List ℕ) (at n next : ℕ) where
+  abbrev r : List ℕ
+  r = run (drop at line)
+
+  abbrev after : List ℕ
+  after = drop (at + length r) line
+
+  front : drop at line ≡ r ++ after
+  front = run-front (drop at line) ∙ ap (λ (x : List ℕ). r ++ x) (drop-drop (length r) at line)
+
+  plain-back : atUnderscore after ≡ false → numberIn r at ≡ N.Of n next → NumeralRead line at n next
+  unfolding numberIn
+  plain-back m e = go (wellFormed r) refl e
+    where
+      go : (t : Bool) → wellFormed r ≡ t → choose t (λ _. N.Of (valueFrom 0 r) (at + length r)) (λ _. N.Absent) ≡ N.Of n next → NumeralRead line at n next
+      go false w h = absurd (let k : _≡_ {A = ℕ} 0 1 = cc in omega arith)
+      go true w h =
+          let d : Plain r = formed-plain r (run-digits (drop at line)) w in
+          let value : valueFrom 0 r ≡ n = cc in
+          let place : at + length r ≡ next = cc in
+          let spelt : r ≡ digits n = sym (plain-value r d) ∙ ap digits value in
+          let stop : numeralEnds after ≡ true = rw (← drop-drop (length r) at line) (run-ends (drop at line) (rw (← drop-drop (length r) at line) at m)) in
+          record {
+            stands =
+                record {
+                  bytes = r;
+                  kind = record { spelling = inl spelt; most = rw (← spelt) (d .most) };
+                  here = front ∙ ap (λ (k : ℕ). r ++ drop k line) place;
+                  after = sym place;
+                };
+            ends = rw (← place) stop;
+          }
+
+  in-groups-back : firstGroup r ≡ true → groupsFrom (valueFrom 0 r) (length r) (at + length r) after ≡ N.Of n next → NumeralRead line at n next
+  in-groups-back l e =
+      let (some, most, lead) = first-group-back r l in
+      let g = groups-back (valueFrom 0 r) (length r) (at + length r) after n next (omega arith) e in
+      let all : List ℕ = r ++ bare (g .bytes) in
+      let long : length all ≡ length r + length (bare (g .bytes)) = length-append r (bare (g .bytes)) in
+      let d : Plain all =
+      record {
+        all = all-append (run-digits (drop at line)) (groups-digits (g .groups));
+        some = omega (arith, long);
+        most = omega (arith, long, g .most);
+        lead = λ z. absurd (lead (sym (List·getD-append r (bare (g .bytes)) 0 0 some) ∙ z));
+      } in
+      let value : valueFrom 0 all ≡ n = value-append 0 r (bare (g .bytes)) ∙ sym (g .number) in
+      let spelt : digits n ≡ all = ap digits (sym value) ∙ plain-value all d in
+      let bytes-are : r ++ g .bytes ≡ grouped (digits n) = sym (grouped-is r (g .bytes) some most (g .groups)) ∙ ap grouped (sym spelt) in
+      let rest : drop next line ≡ g .rest = ap (λ (k : ℕ). drop k line) (g .place) ∙ rest-is line (at + length r) (g .bytes) (g .rest) (g .whole) in
+      let place : next ≡ at + length (r ++ g .bytes) = omega (arith, g .place, length-append r (g .bytes)) in
+      record {
+        stands =
+            record {
+              bytes = r ++ g .bytes;
+              kind = record { spelling = inr bytes-are; most = rw spelt (d .most) };
+              here =
+                  front
+                  ∙ ap (λ (x : List ℕ). r ++ x) (g .whole)
+                  ∙ sym (append-assoc r (g .bytes) (g .rest))
+                  ∙ ap (λ (x : List ℕ). r ++ g .bytes ++ x) (sym rest);
+              after = place;
+            };
+        ends = rw rest (g .ends);
+      }
+
+  back : numberAt line at ≡ N.Of n next → NumeralRead line at n next
+  unfolding numberAt numberFrom
+  back e = go (atUnderscore after) refl e
+    where
+      first : (t : Bool) → firstGroup r ≡ t
+          → choose t (λ _. groupsFrom (valueFrom 0 r) (length r) (at + length r) after) (λ _. N.Absent) ≡ N.Of n next → NumeralRead line at n next
+      first true l h = in-groups-back l h
+      first false l h = absurd (let k : _≡_ {A = ℕ} 0 1 = cc in omega arith)
+
+      go : (t : Bool) → atUnderscore after ≡ t
+          → choose t (λ _. choose (firstGroup r) (λ _. groupsFrom (valueFrom 0 r) (length r) (at + length r) after) (λ _. N.Absent)) (λ _. numberIn r at) ≡ N.Of n next
+          → NumeralRead line at n next
+      go true m h = first (firstGroup r) refl h
+      go false m h = plain-back m h
+
+  -- what is read is a numeral, and the place given is the one after it
+  pub read-numeral : numberAt line at ≡ N.Of n next → Stands (Numeral n) line at next
+  read-numeral e = back e .stands
+
+  -- after a numeral that is read no digit and no `_` stands
+  pub read-ends : numberAt line at ≡ N.Of n next → numeralEnds (drop next line) ≡ true
+  read-ends e = back e .ends

@@ -1,8 +1,9 @@
 -- Reading and writing against each other: every number of at most 19 digits, written, is read back as the same number (a larger one has no
--- numeral), and every number that is read, written again at its place, leaves the line as it was.
+-- numeral), and every number that is read, written again at its place, leaves the line as it was if no `_` stood there.
 use mathlib.Core.Path.{_≡_, refl, sym, ap, _∙_}
-use mathlib.Core.Bool.{Bool, true}
+use mathlib.Core.Bool.{Bool, true, false}
 use mathlib.Core.List.{List, _∷_, _++_, append-assoc}
+use mathlib.Core.Logic.{inl}
 use Prim.Native.Nat.{ℕ, suc, _+_, _-_, _≤_, _<_, _^_}
 use native.Mathlib.Omega.{arith}
 use lib.IntN.{ℤ, pos, negsuc, natAbs}
@@ -12,17 +13,19 @@ use Rattle.text.specs.Words.{Stands}
 use Rattle.text.specs.Output.{Put}
 use Rattle.text.proofs.OutputLaws.{put-room, room-put, put-same}
 use Rattle.numeral.specs.Digits.{digits, signedDigits}
+use Rattle.numeral.specs.Groups.{bare, carries}
 use Rattle.numeral.specs.Numerals.{Numeral, SignedNumeral}
 use Rattle.numeral.specs.Reading.{numeralEnds, numberAt, signedAt, negative, integer}
 use Rattle.numeral.specs.declared.read.Number.the-variants as N
 use Rattle.numeral.specs.declared.read.Signed.the-variants as S
 use Rattle.numeral.proofs.Digits.{digits-some, digits-most}
-use Rattle.numeral.proofs.Numerals.{numeral-read, read-numeral}
+use Rattle.numeral.proofs.GroupLaws.{bare-other, bare-same}
+use Rattle.numeral.proofs.Numerals.{numeral-bare, numeral-most, numeral-read, read-numeral}
 use Rattle.numeral.proofs.SignedNumerals.{signed-read, read-signed}
 
 -- a number below 10 ^ 19 has a numeral, its spelling
 pub digits-numeral : (n : ℕ) → n < 10 ^ 19 → Numeral n (digits n)
-digits-numeral n h = record { spelling = refl; most = digits-most 18 n h }
+digits-numeral n h = record { spelling = inl refl; most = digits-most 18 n h }
 
 pub signed-numeral : (z : ℤ) → natAbs z < 10 ^ 19 → SignedNumeral z (signedDigits z)
 unfolding signedDigits
@@ -63,24 +66,38 @@ stands-put {Kind} {line} {at} {next} w some =
     (sym (take-append-drop at line) ∙ ap (λ (r : List ℕ). take at line ++ r) (w .here ∙ ap (λ (k : ℕ). w .bytes ++ drop k line) (w .after)) ∙ sym (append-assoc (take at line) (w .bytes) (drop (at + length (w .bytes)) line)))
     (w .after)
 
--- what is read, written again, gives the bytes that were read
-pub read-written : (line : List ℕ) (at n next : ℕ) → numberAt line at ≡ N.Of n next → Put line at (digits n) line next
-read-written line at n next e =
-    let w = read-numeral line at n next e in
-    put-same (stands-put w (rw (w .kind .spelling) (digits-some n))) (w .kind .spelling)
-
-pub signed-spelling : (z : ℤ) (s : List ℕ) → SignedNumeral z s → s ≡ signedDigits z
+-- without its `_` a signed numeral is the spelling of its integer
+pub signed-bare : (z : ℤ) (s : List ℕ) → SignedNumeral z s → bare s ≡ signedDigits z
 unfolding signedDigits
-signed-spelling (pos n) s m = m .spelling
-signed-spelling (negsuc n) s (t, m, e) = e ∙ ap (λ (x : List ℕ). 45 ∷ x) (m .spelling)
+signed-bare (pos n) s m = numeral-bare n s m
+signed-bare (negsuc n) s (t, m, e) =
+    ap bare e ∙ bare-other 45 t (λ h. omega arith) ∙ ap (λ (x : List ℕ). 45 ∷ x) (numeral-bare (suc n) t m)
+
+-- a signed numeral has at most 26 bytes
+pub signed-most : (z : ℤ) (s : List ℕ) → SignedNumeral z s → length s ≤ 26
+signed-most (pos n) s m = omega (arith, numeral-most n s m)
+signed-most (negsuc n) s (t, m, e) = rw e (omega (arith, numeral-most (suc n) t m))
 
 signed-some : (z : ℤ) → 1 ≤ length (signedDigits z)
 unfolding signedDigits
 signed-some (pos n) = digits-some n
 signed-some (negsuc n) = omega arith
 
-pub signed-read-written : (line : List ℕ) (at : ℕ) (b : Bool) (m next : ℕ) → signedAt line at ≡ S.Of b m next → Put line at (signedDigits (integer b m)) line next
-signed-read-written line at b m next e =
-    let w = read-signed line at b m next e in
-    let spelt : w .bytes ≡ signedDigits (integer b m) = signed-spelling (integer b m) (w .bytes) (w .kind) in
-    put-same (stands-put w (rw spelt (signed-some (integer b m)))) spelt
+-- what is read without a `_`, written again, gives the bytes that were read
+module _ (line : List ℕ) (at next : ℕ) where
+  again : {Kind : List ℕ → Type 0} (s : List ℕ) → 1 ≤ length s → (w : Stands Kind line at next) → bare (w .bytes) ≡ s → carries (w .bytes) ≡ false
+      → Put line at s line next
+  again s some w spelt none =
+      let same : w .bytes ≡ s = sym (bare-same (w .bytes) none) ∙ spelt in
+      put-same (stands-put w (rw same some)) same
+
+  pub read-written : (n : ℕ) (e : numberAt line at ≡ N.Of n next) → carries (read-numeral line at n next e .bytes) ≡ false → Put line at (digits n) line next
+  read-written n e none =
+      let w = read-numeral line at n next e in
+      again (digits n) (digits-some n) w (numeral-bare n (w .bytes) (w .kind)) none
+
+  pub signed-read-written : (b : Bool) (m : ℕ) (e : signedAt line at ≡ S.Of b m next) → carries (read-signed line at b m next e .bytes) ≡ false
+      → Put line at (signedDigits (integer b m)) line next
+  signed-read-written b m e none =
+      let w = read-signed line at b m next e in
+      again (signedDigits (integer b m)) (signed-some (integer b m)) w (signed-bare (integer b m) (w .bytes) (w .kind)) none

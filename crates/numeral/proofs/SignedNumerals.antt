@@ -13,30 +13,30 @@ use Rattle.text.specs.Words.{startsWith, wordAt, Stands}
 use Rattle.text.specs.declared.words.Word.{Word}
 use Rattle.text.specs.declared.words.Word.the-variants.{After, Other}
 use Rattle.text.proofs.WordLaws.{word-found, word-other, found-word}
-use Rattle.numeral.specs.Numerals.{Numeral, SignedNumeral, AllDigits, more, Described}
+use Rattle.numeral.specs.Numerals.{Numeral, SignedNumeral, AllDigits, more}
 use Rattle.numeral.specs.Reading.{numeralEnds, numberAt, plain, negated, signedFrom, signedAt, integer, negative}
 use Rattle.numeral.specs.declared.read.Number.{Number}
 use Rattle.numeral.specs.declared.read.Number.the-variants as N
 use Rattle.numeral.specs.declared.read.Signed.the-variants as S
-use Rattle.numeral.proofs.Numerals.{described, numeral-read, read-numeral}
+use Rattle.numeral.proofs.Numerals.{begins-digit, numeral-read, read-numeral}
 
 -- an integer is its sign and its magnitude
 pub integer-is : (z : ℤ) → integer (negative z) (natAbs z) ≡ z
 integer-is (pos n) = refl
 integer-is (negsuc n) = refl
 
--- digits begin with no '-'
-no-minus : (s rest : List ℕ) → AllDigits s → 1 ≤ length s → startsWith (45 ∷ []) (s ++ rest) ≡ false
+-- what begins with a digit begins with no '-'
+no-minus : (b : ℕ) (s : List ℕ) → 48 ≤ b → startsWith (45 ∷ []) (b ∷ s) ≡ false
 unfolding startsWith
-no-minus [] rest a h = absurd (omega arith)
-no-minus (b ∷ s) rest (more low high r) h = rw (ne-eqb 45 b (λ e. omega arith))
+no-minus b s low = rw (ne-eqb 45 b (λ e. omega arith))
 
 pub signed-read : (line : List ℕ) (at : ℕ) (z : ℤ) (s rest : List ℕ)
     → SignedNumeral z s → drop at line ≡ s ++ rest → numeralEnds rest ≡ true → signedAt line at ≡ S.Of (negative z) (natAbs z) (at + length s)
 unfolding signedAt signedFrom plain negated
 signed-read line at (pos n) s rest m e f =
-    let d : Described s = described s .1 (n, m) in
-    rw (word-other line at (45 ∷ []) (rw e (no-minus s rest (d .all) (d .some))), numeral-read line at n s rest m e f)
+    let (b, t, low, spelt) = begins-digit n s m in
+    let front : drop at line ≡ b ∷ (t ++ rest) = e ∙ ap (λ (x : List ℕ). x ++ rest) spelt in
+    rw (word-other line at (45 ∷ []) (rw front (no-minus b (t ++ rest) low)), numeral-read line at n s rest m e f)
 signed-read line at (negsuc n) s rest (m, k, spelt) e f =
     let front : drop at line ≡ (45 ∷ []) ++ (m ++ rest) = e ∙ ap (λ (x : List ℕ). x ++ rest) spelt in
     let after : drop (at + 1) line ≡ m ++ rest = sym (drop-drop 1 at line) ∙ ap (λ (x : List ℕ). drop 1 x) front in

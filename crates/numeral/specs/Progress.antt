@@ -1,10 +1,11 @@
--- A run of digits that is being read from its first digit on.
+-- A run of digits that is being read from its first digit on, and the groups after it.
 use mathlib.Core.Path.{_≡_}
 use mathlib.Core.Bool.{true, false}
-use mathlib.Core.List.{List}
+use mathlib.Core.List.{List, [], _∷_}
 use Prim.Native.Nat.{ℕ, _+_, _-_, _*_, _^_, min, _<_, _≤_}
 use lib.ListN.{length, drop}
-use Rattle.numeral.specs.Reading.{isDigit, numeralEnds, run, valueFrom}
+use Rattle.bits.specs.Choice.{choose}
+use Rattle.numeral.specs.Reading.{isDigit, isGroup, atUnderscore, numeralEnds, run, valueFrom}
 
 -- Whether d is at most 9 tells whether the byte is a digit, and if so it is the digit d.
 pub record TellsDigit (b d : ℕ) : Type 0 where
@@ -31,3 +32,22 @@ pub record Progress (line : List ℕ) (at value next : ℕ) : Type 0 where
 pub record AllRead (line : List ℕ) (at value next : ℕ) : Type 0 where
   pub progress : Progress line at value next
   pub last : next < at + 19 → numeralEnds (drop next line) ≡ true
+
+-- Likewise, and a `_` follows them.
+pub record UpToUnderscore (line : List ℕ) (at value next : ℕ) : Type 0 where
+  pub progress : Progress line at value next
+  pub follows : atUnderscore (drop next line) ≡ true
+
+-- `count` digits are read up to the place, at most 19, and `value` is their number.
+pub record Counted (line : List ℕ) (value count at : ℕ) : Type 0 where
+  pub small : value < 10 ^ count
+  pub most : count ≤ 19
+  pub inside : at ≤ length line
+
+-- The number of the group that the bytes begin with, or 1000 if they begin with none.
+unfoldable pub groupNumber : List ℕ → ℕ
+groupNumber [] = 1000
+groupNumber (u ∷ []) = 1000
+groupNumber (u ∷ a ∷ []) = 1000
+groupNumber (u ∷ a ∷ b ∷ []) = 1000
+groupNumber (u ∷ a ∷ b ∷ c ∷ s) = choose (isGroup u a b c) (λ _. valueFrom 0 (a ∷ b ∷ c ∷ [])) (λ _. 1000)

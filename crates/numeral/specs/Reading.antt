@@ -4,11 +4,12 @@ use mathlib.Core.Bool.{Bool, true, false, not, _&&_, _||_}
 use mathlib.Core.List.{List, [], _∷_}
 use Prim.Native.Nat.{ℕ, _+_, _-_, _*_}
 use lib.Dec.{leb, eqb}
-use lib.ListN.{length, drop}
+use lib.ListN.{length, drop, getD}
 use lib.IntN.{ℤ, pos, negsuc, negℤ}
 use Rattle.text.specs.Words.{wordAt}
 use Rattle.text.specs.declared.words.Word.{Word}
 use Rattle.text.specs.declared.words.Word.the-variants.{After, Other}
+use Rattle.numeral.specs.Groups.{underscore}
 use Rattle.numeral.specs.declared.read.Number.{Number}
 use Rattle.numeral.specs.declared.read.Number.the-variants as N
 use Rattle.numeral.specs.declared.read.Signed.{Signed}
@@ -19,9 +20,10 @@ use Rattle.bits.specs.Choice.{choose}
 abbrev pub isDigit : ℕ → Bool
 isDigit b = leb 48 b && leb b 57
 
--- The byte goes on with a numeral that stands before it; the bytes do not go on with it: they are none, or the first is another byte.
+-- The byte goes on with a numeral that stands before it: a digit or a `_`; the bytes do not go on with it: they are none, or the first is
+-- another byte.
 abbrev pub goesOn : ℕ → Bool
-goesOn b = isDigit b
+goesOn b = isDigit b || eqb b underscore
 
 abbrev pub numeralEnds : List ℕ → Bool
 numeralEnds [] = true
@@ -42,13 +44,46 @@ unfoldable pub wellFormed : List ℕ → Bool
 wellFormed [] = false
 wellFormed (b ∷ s) = leb (length s) 18 && (eqb (length s) 0 || not (eqb b 48))
 
--- The number of the numeral that begins at the place, with the place after it; or that none does.
+-- The number of digits that no `_` follows, with the place after them; or that they are no numeral.
 unfoldable pub numberIn : List ℕ → ℕ → Number
 numberIn digits at =
     choose (wellFormed digits) (λ _. N.Of (valueFrom 0 digits) (at + length digits)) (λ _. N.Absent)
 
+-- The digits may stand before the first `_`: 1 to 3, and the first is not 0.
+unfoldable pub firstGroup : List ℕ → Bool
+firstGroup digits = leb 1 (length digits) && (leb (length digits) 3 && not (eqb (getD digits 0 0) 48))
+
+-- The bytes begin with a `_`; the four bytes are a group, a `_` and three digits.
+abbrev pub atUnderscore : List ℕ → Bool
+atUnderscore [] = false
+atUnderscore (b ∷ s) = eqb b underscore
+
+abbrev pub isGroup : ℕ → ℕ → ℕ → ℕ → Bool
+isGroup u a b c = eqb u underscore && (isDigit a && (isDigit b && isDigit c))
+
+-- The number that is read up to a place, if the numeral ends there.
+unfoldable pub endedAt : ℕ → ℕ → List ℕ → Number
+endedAt value at s = choose (numeralEnds s) (λ _. N.Of value at) (λ _. N.Absent)
+
+-- The number after `count` digits that spell `value`, and the groups that the bytes from the place on begin with, 19 digits at most.
+unfoldable pub groupsFrom : ℕ → ℕ → ℕ → List ℕ → Number
+groupsFrom value count at [] = endedAt value at []
+groupsFrom value count at (u ∷ []) = endedAt value at (u ∷ [])
+groupsFrom value count at (u ∷ a ∷ []) = endedAt value at (u ∷ a ∷ [])
+groupsFrom value count at (u ∷ a ∷ b ∷ []) = endedAt value at (u ∷ a ∷ b ∷ [])
+groupsFrom value count at (u ∷ a ∷ b ∷ c ∷ s) =
+    choose (leb count 16 && isGroup u a b c) (λ _. groupsFrom (valueFrom value (a ∷ b ∷ c ∷ [])) (count + 3) (at + 4) s)
+    (λ _. endedAt value at (u ∷ a ∷ b ∷ c ∷ s))
+
+-- The number of the numeral that begins at the place, with the place after it, or that none does, by its first digits and what follows them.
+unfoldable pub numberFrom : List ℕ → List ℕ → ℕ → Number
+numberFrom digits rest at =
+    choose (atUnderscore rest)
+    (λ _. choose (firstGroup digits) (λ _. groupsFrom (valueFrom 0 digits) (length digits) (at + length digits) rest) (λ _. N.Absent))
+    (λ _. numberIn digits at)
+
 unfoldable pub numberAt : List ℕ → ℕ → Number
-numberAt line at = numberIn (run (drop at line)) at
+numberAt line at = numberFrom (run (drop at line)) (drop (at + length (run (drop at line))) line) at
 
 -- The magnitude and the sign of the signed numeral that begins at the place, with the place after it; or that none does.
 unfoldable pub plain : Number → Signed

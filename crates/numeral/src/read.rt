@@ -1,10 +1,11 @@
-// Numerals read: a run of digits, with or without a minus before it.
+// Numerals read: a run of digits, with groups after it or none, with or without a minus before it.
+use crate::groups::read_groups;
 use text::words::Word;
 use text::words::word_at;
 ghost use mathlib.Core.Path.{_≡_};
 ghost use Prim.Native.Nat.{_+_, _≤_};
 ghost use lib.ListN.{length, drop};
-ghost use Rattle.numeral.specs.Progress.{TellsDigit, digitsEnd, DigitsAt, Progress, AllRead};
+ghost use Rattle.numeral.specs.Progress.{TellsDigit, digitsEnd, DigitsAt, Progress, AllRead, UpToUnderscore};
 ghost use Rattle.numeral.specs.Reading.{numeralEnds, numberAt, signedAt};
 
 // A numeral's number with the place after it, or that no numeral begins at the place.
@@ -24,7 +25,7 @@ pub enum Signed {
 }
 
 // The byte less 48, modulo 2^64: the number of a digit, and above 9 for any other byte, so that one comparison tells a digit.
-fn digit(b: u8) -> u64
+pub(crate) fn digit(b: u8) -> u64
     ensures { λ r. ⌜ TellsDigit b r ⌝ }
 {
     std::num::wrapping_sub_u64(b as u64, 48)
@@ -43,18 +44,22 @@ fn digits_end(length: usize, at: usize) -> usize
     at + 19
 }
 
-// At a place stands no digit, or the line has ended.
-fn numeral_ends(line: &[u8], at: usize) -> bool
+// At a place stands neither a digit nor a '_', or the line has ended.
+pub(crate) fn numeral_ends(line: &[u8], at: usize) -> bool
     ensures { λ r. ⌜ r ≡ numeralEnds (drop at (now (line .entry))) ⌝ }
 {
     if line.len() <= at {
         return true;
     }
-    9 < digit(line[at])
+    let after = line[at];
+    if after == b'_' {
+        return false;
+    }
+    9 < digit(after)
 }
 
-// The answer where the digits up to a place are read, all that there are or nineteen. A twentieth digit, a 0 before others, or no digit at
-// all is no numeral.
+// The answer where the digits up to a place are read, all that there are or nineteen, and no '_' follows those that are all. A twentieth digit, a
+// '_' after nineteen, a 0 before others, or no digit at all is no numeral.
 fn finished(line: &[u8], at: usize, value: u64, next: usize) -> Number
     requires { ⌜ AllRead (now line) at value next ⌝ }
     ensures { λ r. ⌜ r ≡ numberAt (now (line .entry)) at ⌝ }
@@ -77,14 +82,38 @@ fn finished(line: &[u8], at: usize, value: u64, next: usize) -> Number
     Number::Of(value, next)
 }
 
-// Reads on from a place up to which digits are read, a digit a turn.
+// The answer where a '_' follows the digits up to a place. They are the first group: one to three digits, the first no 0.
+fn first_group(line: &[u8], at: usize, value: u64, next: usize) -> Number
+    requires { ⌜ UpToUnderscore (now line) at value next ⌝ }
+    ensures { λ r. ⌜ r ≡ numberAt (now (line .entry)) at ⌝ }
+{
+    let count = next - at;
+    if count == 0 {
+        return Number::Absent;
+    }
+    if 3 < count {
+        return Number::Absent;
+    }
+    let lead = line[at];
+    if lead == b'0' {
+        return Number::Absent;
+    }
+    read_groups(line, value, count, next)
+}
+
+// Reads on from a place up to which digits are read, a digit a turn. Only a byte that is no digit is compared with '_', so that plain digits cost
+// nothing for it.
 fn read_on(line: &[u8], at: usize, mut value: u64, mut next: usize, end: usize) -> Number
     requires { ⌜ Progress (now line) at value next × (end ≡ digitsEnd (length (now line)) at) ⌝ }
     ensures { λ r. ⌜ r ≡ numberAt (now (line .entry)) at ⌝ }
 {
     while next < end {
-        let d = digit(line[next]);
+        let b = line[next];
+        let d = digit(b);
         if 9 < d {
+            if b == b'_' {
+                return first_group(line, at, value, next);
+            }
             break;
         }
         value = value * 10 + d;
@@ -93,7 +122,7 @@ fn read_on(line: &[u8], at: usize, mut value: u64, mut next: usize, end: usize) 
     finished(line, at, value, next)
 }
 
-// The numeral at a place. Nineteen digits fit a u64; with a twentieth it is none.
+// The numeral at a place, plain or in groups. Nineteen digits fit a u64; with a twentieth it is none.
 pub fn read_number(line: &[u8], at: usize) -> Number
     ensures { λ r. ⌜ r ≡ numberAt (now (line .entry)) at ⌝ }
 {

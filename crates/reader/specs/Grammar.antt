@@ -11,7 +11,7 @@ use Rattle.reader.specs.Reading.{longestLine, readingOf}
 use Rattle.command.specs.declared.Command.{Command}
 use Rattle.command.specs.declared.Reading.the-variants.{Accepted}
 
--- The line is a spelling of the form, and at most 120 bytes long.
+-- The line is a spelling of the form, and at most 160 bytes long.
 pub record Shaped (f : Form) (line : List ℕ) : Type 0 where
   pub spelling : IsSpelling f line
   pub short : length line ≤ longestLine

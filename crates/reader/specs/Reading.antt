@@ -61,10 +61,10 @@ wordOf (s ∷ ss) line at = takenWord (wordAt line at (bytes (s .word))) (s .nam
 unfoldable pub wordFrom : List ℕ → ℕ → WordAt
 wordFrom line at = wordOf shapes line at
 
--- 'A line is at most 120 bytes, without its LF.'
+-- 'A line is at most 120 bytes, without its LF', and order 4: 'the line limit becomes 160'.
 abbrev pub longestLine : ℕ
-longestLine = 120
+longestLine = 160
 
--- 'or over 120 bytes'
+-- 'or over' that limit
 unfoldable pub readingOf : List ℕ → Reading
 readingOf line = choose (leb (length line) longestLine) (λ _. readAs (parse line)) (λ _. NoShape)

@@ -1,4 +1,4 @@
-// The reader of command lines: document 01, 'Line forms', and document 02, order 3. It takes a line of any bytes and any length.
+// The reader of command lines: document 01, 'Line forms', and document 02, orders 3 and 4. It takes a line of any bytes and any length.
 use crate::walk::begin;
 use crate::walk::moved;
 use crate::walk::rest;
@@ -13,7 +13,7 @@ ghost use Rattle.reader.specs.Reading.{parse, readingOf};
 ghost use Rattle.shapes.specs.Shapes.{readAs};
 
 // The longest line, without its LF.
-pub const LONGEST_LINE: usize = 120;
+pub const LONGEST_LINE: usize = 160;
 
 // The line walked along: the word of its form, then what is left as that form's parts.
 fn read_shape(line: &[u8]) -> Reading

@@ -1,3 +1,2 @@
 -- The theorem of order 1, proved.
-pub mod NoBreak
 pub mod Theorem

@@ -1,12 +1,15 @@
--- The theorem of order 1 (`round-trip`): the grammar has every line that is written, and a line that the grammar has is the plain spelling of
--- its form.
+-- The theorem of order 1 (`round-trip`), with order 4's numerals: the grammar has every line that is written, and a line that the grammar has is,
+-- without its `_`, the plain spelling of its form.
 use mathlib.Core.Path.{_≡_, refl, sym, ap, _∙_}
-use mathlib.Core.Bool.{true}
-use mathlib.Core.List.{List, _++_}
+use mathlib.Core.Bool.{true, false}
+use mathlib.Core.List.{List, [], _∷_, _++_}
 use Prim.Native.Nat.{ℕ, _≤_}
 use native.Mathlib.Omega.{arith}
+use borrow.Author.Tests.{ne-eqb}
 use lib.ListN.{length, take, drop}
 use lib.Seq.{take-at}
+use Rattle.numeral.specs.Groups.{bare, carries}
+use Rattle.numeral.proofs.GroupLaws.{bare-same}
 use Rattle.writing.specs.Puts.{leastOutput}
 use Rattle.command.specs.Spelling.{plainSpelling}
 use Rattle.command.specs.Forms as F
@@ -16,8 +19,9 @@ use Rattle.command.specs.Causes.{first, dateCauses, formCauses, ownCauses}
 use Rattle.command.specs.declared.Command.{Command}
 use Rattle.command.specs.declared.Reading.{Reading}
 use Rattle.command.specs.declared.Reading.the-variants.{Accepted}
+use Rattle.command.proofs.PlainBytes.{plainBytes, plain-byte, plain-carries, spelling-bytes}
 use Rattle.command.proofs.SpellingLaws.{spelling-plain, uncaused-keeps, plain-spells, plain-most}
-use Rattle.lines.specs.Lines.{breaks}
+use Rattle.lines.specs.Lines.{lf, breaks}
 use Rattle.reader.specs.Reading.{readingOf}
 use Rattle.reader.specs.Grammar.{Shaped}
 use Rattle.reader.proofs.GrammarLaws.{reads-the-grammar}
@@ -25,7 +29,6 @@ use Rattle.form_lines.specs.Written.{WriteResult, writeResult, writtenForm}
 use Rattle.writer.specs.Written.{written}
 use Rattle.writer.proofs.CommandLaws.{written-accepts, written-line}
 use Rattle.round_trip.specs.RoundTrip.{NotRefused, lineIn, RoundTrip}
-use Rattle.round_trip.proofs.NoBreak.{plain-unbroken}
 
 -- the line of a command that is not refused
 line-is : (c : Command) (out : List ℕ) → NotRefused c out → (lineIn c out ≡ plainSpelling (formOf c)) × (first (formCauses (formOf c)) ≡ 0)
@@ -36,13 +39,24 @@ line-is c out e =
     let all : written c out ≡ writeResult 0 (length line) (line ++ drop (length line) out) = written-line c out room none in
     (ap (λ (w : WriteResult). take (w .length) (w .buffer)) all ∙ take-at line (drop (length line) out) (length line) refl, none)
 
-line-back : (line : List ℕ) (c : Command) (out : List ℕ) → readingOf line ≡ Accepted c → NotRefused c out
-    → written c out ≡ writeResult 0 (length line) (line ++ drop (length line) out)
-line-back line c out e accepted =
+line-plain : (line : List ℕ) (c : Command) (out : List ℕ) → readingOf line ≡ Accepted c → NotRefused c out
+    → (written c out ≡ writeResult 0 (length (bare line)) (bare line ++ drop (length (bare line)) out)) × (bare line ≡ plainSpelling (formOf c))
+line-plain line c out e accepted =
     let (shaped, kept) = reads-the-grammar line .command c .0 e in
-    let same : plainSpelling (formOf c) ≡ line = sym (spelling-plain (formOf c) line (shaped .spelling)) in
+    let same : bare line ≡ plainSpelling (formOf c) = spelling-plain (formOf c) line (shaped .spelling) in
     let (room, none) = written-accepts c out .0 accepted in
-    written-line c out room none ∙ ap (λ (s : List ℕ). writeResult 0 (length s) (s ++ drop (length s) out)) same
+    (written-line c out room none ∙ ap (λ (s : List ℕ). writeResult 0 (length s) (s ++ drop (length s) out)) (sym same), same)
+
+line-back : (line : List ℕ) (c : Command) (out : List ℕ) → readingOf line ≡ Accepted c → NotRefused c out → carries line ≡ false
+    → written c out ≡ writeResult 0 (length line) (line ++ drop (length line) out)
+line-back line c out e accepted none =
+    line-plain line c out e accepted .0 ∙ ap (λ (s : List ℕ). writeResult 0 (length s) (s ++ drop (length s) out)) (bare-same line none)
+
+-- bytes of a plain spelling are no LF
+plain-unbroken : (s : List ℕ) → plainBytes s ≡ true → breaks s ≡ 0
+unfolding breaks
+plain-unbroken [] e = refl
+plain-unbroken (b ∷ s) e = let (low, other, others) = plain-byte b s e in rw (ne-eqb b lf (λ h. omega (arith, h))) (plain-unbroken s others)
 
 -- a form that keeps its limits has no cause but those of its dates
 kept-causes : (f : Form) → keeps f ≡ true → first (formCauses f) ≡ first (dateCauses f)
@@ -80,6 +94,7 @@ form-line (F.window slot begins ends) out = refl
 pub round-trip : RoundTrip
 round-trip =
     record {
+      line-plain = line-plain;
       line-back = line-back;
       line-accepted = line-accepted;
       command-back = command-back;
@@ -87,7 +102,8 @@ round-trip =
         λ e. same-command c d (sym (command-back c out a) ∙ ap readingOf e ∙ command-back d out′ b),
         λ e. line-is c out a .0 ∙ ap (λ (x : Command). plainSpelling (formOf x)) e ∙ sym (line-is d out′ b .0),
       );
-      no-lf = λ c out e. ap breaks (line-is c out e .0) ∙ plain-unbroken (formOf c);
+      no-underscore = λ c out e. ap carries (line-is c out e .0) ∙ plain-carries (plainSpelling (formOf c)) (spelling-bytes (formOf c));
+      no-lf = λ c out e. ap breaks (line-is c out e .0) ∙ plain-unbroken (plainSpelling (formOf c)) (spelling-bytes (formOf c));
       accepts = written-accepts;
       form-line = form-line;
     }

@@ -11,7 +11,7 @@ use Rattle.form_lines.specs.Written.{WriteResult, writtenForm, refused}
 unfoldable pub written : Command → List ℕ → WriteResult
 written c out = writtenForm (formOf c) out
 
--- What a line is read as, written back. After 10, a line with no command shape, or over 120 bytes, is refused with 1, one with a number
+-- What a line is read as, written back. After 10, a line with no command shape, or over 160 bytes, is refused with 1, one with a number
 -- outside its limits or a first edge above the second with 2.
 unfoldable pub writtenReading : Reading → List ℕ → WriteResult
 writtenReading (Accepted c) out = written c out

@@ -123,6 +123,10 @@ fn digits() {
             ("(start 0 im 0 (0 10000000000000000000))", "(no 1)"),
             // 2 to the power 64 plus 5 has 20 digits and must not count as 5.
             ("(pass 18446744073709551621)", "(no 1)"),
+            // The limit counts digits only.
+            ("(pass 9_999_999_999_999_999_999)", "(no 2)"),
+            ("(pass 10_000_000_000_000_000_000)", "(no 1)"),
+            ("(pass 18_446_744_073_709_551_621)", "(no 1)"),
         ],
     );
 }

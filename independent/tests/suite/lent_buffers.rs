@@ -98,13 +98,25 @@ fn plain_on_every_length() {
     ] {
         on_every_length(|out| plain(line.as_bytes(), out), Ok(line));
     }
-    let long = " ".repeat(121);
+    // Longer than its plain spelling, which is what is written.
+    for (line, spelling) in [
+        ("(pass 1_000)", "(pass 1000)"),
+        (
+            "(start 3 im 50_000 (-1_000 1000))",
+            "(start 3 im 50000 (-1000 1000))",
+        ),
+    ] {
+        on_every_length(|out| plain(line.as_bytes(), out), Ok(spelling));
+    }
+    let long = " ".repeat(161);
     for (line, number) in [
         ("", 1),
         ("(pass 12x7)", 1),
         ("(pass 86400001 )", 1),
         (&long, 1),
+        ("(pass 12_7)", 1),
         ("(pass 86400001)", 2),
+        ("(pass 86_400_001)", 2),
         ("(reply 1 1 (1 0))", 2),
         ("(window 3 (2000-01-01T00:00:00 2000-01-01T00:00))", 1),
         ("(window 16 (2000-01-01T00:00:60 2000-01-01T00:00:00))", 2),

@@ -128,7 +128,7 @@ fn checked(call: impl Fn(&mut [u8]) -> Written) -> Result<String, u8> {
         return Err(number);
     }
     let line = String::from_utf8(first[..length].to_vec()).expect("ASCII");
-    assert!((1..=120).contains(&length) && !line.contains('\n'));
+    assert!((1..=160).contains(&length) && !line.contains(['\n', '_']));
     Ok(line)
 }
 

@@ -1,11 +1,18 @@
 //! Lines that are read and written again.
 
+use independent::limits::MAX_LINE;
 use independent::{answer_line, Keeper};
 
 use crate::caller::{after, ask};
 use crate::order::{samples, spelled};
 use crate::random::{random_line, Random};
-use crate::reference::number_of;
+use crate::reference::{grouped, number_of};
+
+/// The line without each `_`. Of a command this is the plain spelling, because
+/// only a numeral can carry one.
+fn without_separators(line: &[u8]) -> Vec<u8> {
+    line.iter().copied().filter(|&byte| byte != b'_').collect()
+}
 
 /// Checks one line against the second reading of lines, and against what a
 /// fresh keeper answers: it refuses what is no command with number 1, 2, 11 or
@@ -15,7 +22,7 @@ fn check(line: &[u8]) -> u8 {
     let spelled = spelled(line);
     let number = match &spelled {
         Ok(again) => {
-            assert_eq!(again.as_bytes(), line);
+            assert_eq!(again.as_bytes(), without_separators(line));
             0
         }
         Err(number) => *number,
@@ -44,6 +51,26 @@ const COMMANDS: [&str; 10] = [
     "(window 15 (2000-02-29T00:00:00 2010-10-20T10:20:30))",
 ];
 
+/// Commands with grouped numerals, in some beside plain ones, and their plain
+/// spellings.
+#[rustfmt::skip]
+const GROUPED: [(&str, &str); 8] = [
+    ("(start 3 im 200 (-1_000 1_000))", "(start 3 im 200 (-1000 1000))"),
+    ("(start 15 mm 50_000 (-1000 1_000))", "(start 15 mm 50000 (-1000 1000))"),
+    ("(start 0 im 1000 (-12_345 1234567))", "(start 0 im 1000 (-12345 1234567))"),
+    ("(pass 1_000)", "(pass 1000)"),
+    ("(pass 86_400_000)", "(pass 86400000)"),
+    ("(reply 4 16_777_215 (-9 999))", "(reply 4 16777215 (-9 999))"),
+    (
+        "(reply 4 1 (-4_000_000_000_000_000_000 4000000000000000000))",
+        "(reply 4 1 (-4000000000000000000 4000000000000000000))",
+    ),
+    (
+        "(reply 4 1000 (-4000000000000000000 -3_999_999_999_999_999_999))",
+        "(reply 4 1000 (-4000000000000000000 -3999999999999999999))",
+    ),
+];
+
 /// How often each number was returned by `plain`.
 struct Seen([u32; 13]);
 
@@ -66,6 +93,16 @@ fn commands_come_back_byte_for_byte() {
     }
     for order in samples().into_iter().filter(|order| order.is_allowed()) {
         assert_eq!(check(order.line().as_bytes()), 0, "{order:?}");
+    }
+}
+
+#[test]
+fn grouped_numerals_come_back_plain() {
+    for (line, spelling) in GROUPED {
+        assert_eq!(check(line.as_bytes()), 0, "{line}");
+        assert_eq!(spelled(line).as_deref(), Ok(spelling));
+        // The plain spelling stays.
+        assert_eq!(spelled(spelling).as_deref(), Ok(spelling));
     }
 }
 
@@ -95,6 +132,9 @@ fn number_1() {
         "(start 3 xx 0 (0 0))", "(start 3 im 0 (-0 0))", "(start 3 im 0 (00 0))",
         "(start 3 im 0  (0 0))", "(start 3 im 0 (0 0)) ", "(reply 1 1 (0 -0))",
         "(reply 1 01 (0 0))", "(reply 1 -1 (0 0))", "(start 3 im 0 (-10000000000000000000 0))",
+        "(pass 12_7)", "(pass 1000_000)", "(pass _100)", "(pass 1_0000)", "(request _1)",
+        "(pass 10_000_000_000_000_000_000)", "(re_ad)", "(read_)", "(pass_1)", "(drop 1_)",
+        "(start 3 i_m 0 (0 0))", "(start 3 im 0_(0 0))", "(start 3 im_0 (0 0))",
     ] {
         assert_eq!(check(line.as_bytes()), 1, "{line:?}");
     }
@@ -118,6 +158,14 @@ fn number_2() {
         "(reply 1 16777216 (0 0))",
         "(reply 1 1 (0 -1))",
         "(drop 256)",
+        "(start 1_000 im 0 (0 0))",
+        "(start 0 im 50_001 (0 0))",
+        "(start 0 im 0 (1_001 1_000))",
+        "(start 0 mm 0 (-4_000_000_000_000_000_001 0))",
+        "(start 0 mm 0 (0 9_999_999_999_999_999_999))",
+        "(pass 86_400_001)",
+        "(request 1_000)",
+        "(reply 1 16_777_216 (0 0))",
     ] {
         assert_eq!(check(line.as_bytes()), 2, "{line:?}");
     }
@@ -147,6 +195,9 @@ fn number_1_comes_before_number_2() {
         "(reply 16 0 (2 1) )",
         "(reply 16 0 (2 -0))",
         "(request 16))",
+        "(start 1_000 im 50_001 (0 1_00))",
+        "(reply 1_000 0 (2 1_))",
+        "(window 16 (2_000-01-01T00:00:00 2000-01-01T00:00:00))",
     ] {
         assert_eq!(check(line.as_bytes()), 1, "{line:?}");
     }
@@ -154,34 +205,55 @@ fn number_1_comes_before_number_2() {
 
 #[test]
 fn long_lines() {
-    // The longest line of a command shape has 94 bytes: every numeral has 19
-    // digits, which no range but that of the edges allows.
-    let numeral = "9".repeat(19);
+    // The longest line of a command shape has 118 bytes: every numeral is
+    // grouped and has 19 digits, which no range but that of the edges allows.
+    let numeral = grouped(&"9".repeat(19));
     let longest = format!("(start {numeral} mm {numeral} (-{numeral} -{numeral}))");
-    assert_eq!(longest.len(), 94);
+    assert_eq!(longest.len(), 118);
     assert_eq!(check(longest.as_bytes()), 2);
+    assert_eq!(without_separators(longest.as_bytes()).len(), 94);
+    assert_eq!(check(&without_separators(longest.as_bytes())), 2);
 
     for line in COMMANDS.into_iter().chain([longest.as_str()]) {
-        for length in [119, 120, 121, 122, 256, 300, 100_000] {
-            for filling in [b' ', b')', b'0', b'\n'] {
+        for length in [119, 120, 121, 159, 160, 161, 162, 256, 300, 100_000] {
+            for filling in [b' ', b')', b'0', b'_', b'\n'] {
                 let mut line = line.as_bytes().to_vec();
                 line.resize(length, filling);
                 assert_eq!(check(&line), 1);
             }
         }
     }
-    // Lines of these lengths whose numeral is too long.
-    for length in [120, 121] {
-        let line = format!("(pass {})", "1".repeat(length - 7));
-        assert_eq!(line.len(), length);
-        assert_eq!(check(line.as_bytes()), 1);
+}
+
+/// No shape is as long as the limit, so no line shows where it lies. These are
+/// refused for their numeral as well.
+#[test]
+fn long_numerals() {
+    assert_eq!(MAX_LINE, 160);
+    for length in [118, 120, 121, 159, 160, 161, 162] {
+        for digit in ["0", "1", "9", "_"] {
+            let line = format!("(pass {})", digit.repeat(length - 7));
+            assert_eq!(line.len(), length);
+            assert_eq!(check(line.as_bytes()), 1);
+        }
+    }
+    // Grouped, of 19 digits and more. The two words together give every
+    // length about the limit.
+    for digits in 19..=120 {
+        let numeral = grouped(&"1".repeat(digits));
+        let number = if digits == 19 { 2 } else { 1 };
+        for word in ["pass", "request"] {
+            let line = format!("({word} {numeral})");
+            assert_eq!(check(line.as_bytes()), number, "{line}");
+        }
     }
 }
 
 #[test]
 fn every_change_of_one_byte() {
     let mut seen = Seen([0; 13]);
-    for line in COMMANDS {
+    let grouped = GROUPED.map(|(line, _)| line);
+    for line in COMMANDS.into_iter().chain(grouped) {
         let line = line.as_bytes();
         for place in 0..line.len() {
             let mut shorter = line.to_vec();
@@ -210,7 +282,7 @@ fn random_lines() {
     }
     seen.assert_all();
     for _ in 0..10_000 {
-        let length = random.below(130) as usize;
+        let length = random.below(170) as usize;
         let line: Vec<u8> = (0..length).map(|_| random.next() as u8).collect();
         check(&line);
     }

@@ -45,6 +45,16 @@ fn the_whole_run() {
 }
 
 #[test]
+fn grouped_digits() {
+    assert_run(
+        b"(start 3 im 200 (-1_000 1000))\n(pass 1_000)\n(pass 12_7)\n(pass 86_400_001)\n\
+        (request 1_000)\n(pass 1000_000)\n(pass _100)\n(read)\n",
+        "(started 3)\n(at 1000 (999799000 1000201000))\n(no 1)\n(no 2)\n(no 2)\n(no 1)\n\
+        (no 1)\n(time (999799000 1000201000) (1000000000 201000) 0 0)\n",
+    );
+}
+
+#[test]
 fn windows() {
     assert_run(
         b"(window 4 (2000-01-01T00:00:00 2000-01-01T00:00:01))\n\
@@ -73,10 +83,10 @@ fn empty_and_unfinished_lines() {
 
 #[test]
 fn long_lines_are_refused_once() {
-    for length in [120, 121, 122, 65_535, 65_536, 65_537, 200_000] {
-        let mut input = b"(start 1 im 0 (0 0))\n(pass 1)".to_vec();
-        input.resize(input.len() + length, b' ');
-        input.extend_from_slice(b"\n(pass 2)\n");
+    for length in [159, 160, 161, 162, 65_535, 65_536, 65_537, 200_000] {
+        let mut line = b"(pass 1)".to_vec();
+        line.resize(length, b' ');
+        let input = [b"(start 1 im 0 (0 0))\n", &line[..], b"\n(pass 2)\n"].concat();
         let expected = "(started 1)\n(no 1)\n(at 2 (2000000 2000000))\n";
         assert_run(&input, expected);
     }
@@ -92,6 +102,22 @@ fn lines_across_blocks() {
         let mut input = vec![b'x'; length];
         input.extend_from_slice(b"\n(start 1 im 0 (0 0))\n(read)\n");
         assert_run(&input, "(no 1)\n(started 1)\n(time (0 0) (0 0) 0 0)\n");
+    }
+}
+
+#[test]
+fn the_longest_lines_across_blocks() {
+    // The first of the two has the longest shape, the second is the longest
+    // line that a keeper accepts.
+    let nines = "9_999_999_999_999_999_999";
+    let edge = "-4_000_000_000_000_000_000";
+    let refused = format!("(start {nines} mm {nines} (-{nines} -{nines}))");
+    let accepted = format!("(start 15 mm 50_000 ({edge} {edge}))");
+    assert_eq!((refused.len(), accepted.len()), (118, 76));
+    for length in 65_330..65_540 {
+        let mut input = vec![b'x'; length];
+        input.extend_from_slice(format!("\n{refused}\n{accepted}\n").as_bytes());
+        assert_run(&input, "(no 1)\n(no 2)\n(started 15)\n");
     }
 }
 

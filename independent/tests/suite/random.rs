@@ -4,6 +4,7 @@
 use independent::{answer_image, answer_line, Keeper, Rule};
 
 use crate::caller::ask;
+use crate::reference::grouped_line;
 
 /// Xorshift generator, enough for tests.
 pub struct Random(pub u64);
@@ -30,9 +31,12 @@ pub fn random_line(random: &mut Random) -> Vec<u8> {
     let mut line = random
         .pick(&[
             "(start 3 im 200 (-1000 1000))",
+            "(start 3 mm 1_000 (-1_000_000 1000))",
             "(pass 100)",
+            "(pass 12_345)",
             "(request 4)",
             "(reply 4 1 (-9 4000000000000000000))",
+            "(reply 4 1 (-9 3_999_999_999_999_999_999))",
             "(drop 4)",
             "(read)",
             "(waiting)",
@@ -44,8 +48,8 @@ pub fn random_line(random: &mut Random) -> Vec<u8> {
     for _ in 0..random.below(4) {
         let place = random.below(line.len() as u64) as usize;
         match random.below(6) {
-            0 => line[place] = random.pick(b"() -0123456789asimxT:"),
-            1 => line.insert(place, random.pick(b"() -0123456789asimxT:")),
+            0 => line[place] = random.pick(b"() -_0123456789asimxT:"),
+            1 => line.insert(place, random.pick(b"() -_0123456789asimxT:")),
             2 => line[place] = random.next() as u8,
             // Another digit keeps the shape of a date.
             3 | 4 if line[place].is_ascii_digit() => line[place] = random.pick(b"0123456789"),
@@ -195,8 +199,9 @@ fn random_numerals() {
         let bits = random.below(62);
         let edge = (random.next() >> (63 - bits)) as i64 % 4_000_000_000_000_000_001;
         let edge = if random.below(2) == 0 { edge } else { -edge };
+        let line = format!("(start 0 im 0 ({edge} {edge}))");
         let mut keeper = Keeper::fresh();
-        ask(&mut keeper, format!("(start 0 im 0 ({edge} {edge}))"));
+        ask(&mut keeper, grouped_line(&line, random.next() as u32));
         assert_eq!(
             ask(&mut keeper, "(read)"),
             format!("(time ({edge} {edge}) ({edge} 0) 0 0)")
@@ -210,7 +215,7 @@ fn random_bytes() {
     let mut keeper = Keeper::fresh();
     let mut out = [0; 256];
     for _ in 0..20_000 {
-        let length = random.below(130) as usize;
+        let length = random.below(170) as usize;
         let line: Vec<u8> = (0..length).map(|_| random.next() as u8).collect();
         assert_eq!(answer_line(&mut keeper, &line, &mut out).number, 1);
     }

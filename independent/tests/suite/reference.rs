@@ -1,6 +1,7 @@
 //! A second reading of lines, by another way than that of the library: the
-//! words of a line are put together again and compared with the line. Also a
-//! second arithmetic of dates, with a formula instead of counting.
+//! words of a line are put together again and compared with the line, and so
+//! are the groups of a numeral. Also a second arithmetic of dates, with a
+//! formula instead of counting.
 
 /// Returns 0 for a line that is a command, else the number of its refusal.
 pub fn number_of(line: &[u8]) -> u8 {
@@ -8,7 +9,7 @@ pub fn number_of(line: &[u8]) -> u8 {
         return 1;
     };
     match number_of_shape(text) {
-        _ if line.len() > 120 => 1,
+        _ if line.len() > 160 => 1,
         None => 1,
         Some(number) => number,
     }
@@ -103,11 +104,49 @@ pub fn moment([year, month, day, hour, minute, second]: [u64; 6]) -> i64 {
     (days * 86_400 + seconds as i64) * 1_000_000_000
 }
 
-/// A numeral, in a type that holds every numeral of 19 digits.
-fn numeral(word: &str) -> Option<i128> {
-    let value: i128 = word.parse().ok()?;
+/// A numeral, in a type that holds every numeral of 19 digits. Its plain
+/// spelling is what is left without each `_`.
+pub fn numeral(word: &str) -> Option<i128> {
+    let plain = word.replace('_', "");
+    let value: i128 = plain.parse().ok()?;
     let digits = value.unsigned_abs().to_string().len();
-    (digits <= 19 && value.to_string() == word).then_some(value)
+    let is_spelling = word == plain || word == grouped(&plain);
+    (digits <= 19 && value.to_string() == plain && is_spelling).then_some(value)
+}
+
+/// The grouped spelling of a plain numeral: `_` is put in from the right, as
+/// long as more than three digits are left.
+pub fn grouped(plain: &str) -> String {
+    let first_digit = usize::from(plain.starts_with('-'));
+    let mut text = plain.to_string();
+    let mut place = text.len();
+    while place > first_digit + 3 {
+        place -= 3;
+        text.insert(place, '_');
+    }
+    text
+}
+
+/// A line of plain numerals with some of them grouped: bit 0 of `chosen`
+/// stands for the first of them. A date is no numeral and stays.
+pub fn grouped_line(line: &str, chosen: u32) -> String {
+    let mut text = String::new();
+    let mut bits = chosen;
+    for piece in line.split_inclusive(['(', ')', ' ']) {
+        let word = piece.trim_end_matches(['(', ')', ' ']);
+        if numeral(word).is_none() {
+            text.push_str(piece);
+            continue;
+        }
+        if bits & 1 == 1 {
+            text.push_str(&grouped(word));
+        } else {
+            text.push_str(word);
+        }
+        text.push_str(&piece[word.len()..]);
+        bits >>= 1;
+    }
+    text
 }
 
 /// A numeral without a sign.

@@ -8,7 +8,7 @@ use independent::{Keeper, Rule};
 use crate::caller::ask;
 use crate::order::{samples, spelled, written, Order, END};
 use crate::random::Random;
-use crate::reference::moment;
+use crate::reference::{grouped_line, moment};
 
 /// A keeper of another board than `peer`, with edges that cover the range.
 fn wide(peer: u64) -> Keeper {
@@ -148,9 +148,24 @@ fn a_command_written_and_read_is_the_same_command() {
 }
 
 #[test]
+fn a_grouped_line_is_the_same_command() {
+    let mut random = Random(0x6E0F_00D5_1234_4321);
+    for order in allowed_orders() {
+        let plain = order.line();
+        for chosen in [u32::MAX, random.next() as u32] {
+            let line = grouped_line(&plain, chosen);
+            check_reading(order, &line);
+            assert_eq!(spelled(&line).as_ref(), Ok(&plain), "{line}");
+        }
+    }
+}
+
+#[test]
 fn every_small_number() {
     for ticks in 0..20_000 {
-        assert_eq!(written(Order::Pass(ticks)), Ok(format!("(pass {ticks})")));
+        let line = format!("(pass {ticks})");
+        assert_eq!(written(Order::Pass(ticks)).as_ref(), Ok(&line));
+        assert_eq!(spelled(grouped_line(&line, 1)), Ok(line));
     }
     for board in 0..16 {
         for order in [

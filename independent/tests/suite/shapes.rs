@@ -14,7 +14,7 @@ fn lines_that_are_no_command() {
         "(pass)", "(pass )", "(pass  5)", "(pass 5", "(pass 5) ", "(pass 5 )", "(pass 5))",
         "(pass 5 5)", "(pass5)", "(passs 5)", "(pass\t5)", "(pass +5)", "(pass -5)", "(pass -0)",
         "(pass -)", "(pass 05)", "(pass 00)", "(pass 0x5)", "(pass 5.0)", "(pass 1e3)",
-        "(pass 12x7)", "(pass (5))", "(request)", "(request )", "(request 1 2)", "(request -1)",
+        "(pass 12x7)", "(pass 12_7)", "(pass _)", "(pass (5))", "(request)", "(request )", "(request 1 2)", "(request -1)",
         "(request 01)", "(drop)", "(drop 1 1)", "(drop -1)", "(drop x)", "(stop 1)", "(x)",
     ];
     let mut started = after(&["(start 0 im 0 (0 0))"]);
@@ -86,7 +86,7 @@ fn every_cut_of_a_command_and_every_added_byte() {
 #[test]
 fn line_length() {
     let mut keeper = after(&["(start 0 im 0 (0 0))"]);
-    for length in [119, 120, 121, 122, 1000, 100_000] {
+    for length in [118, 119, 120, 121, 159, 160, 161, 162, 1000, 100_000] {
         let mut line = b"(pass 1)".to_vec();
         line.resize(length, b' ');
         assert_eq!(ask(&mut keeper, line), "(no 1)");

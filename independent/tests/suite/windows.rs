@@ -4,7 +4,7 @@ use independent::{answer_line, Answered, Keeper};
 
 use crate::caller::{after, ask, expect, UNTOUCHED};
 use crate::random::Random;
-use crate::reference::{moment, text_of_date};
+use crate::reference::{grouped_line, moment, text_of_date};
 
 const SECOND: i64 = 1_000_000_000;
 const END: i64 = 4_000_000_000_000_000_000;
@@ -133,9 +133,10 @@ fn every_slot() {
         assert_eq!(ask(&mut keeper, line), format!("(open {slot})"));
     }
     // The slot may be the number of the board, which is 3.
-    for slot in [16, 17, 99, 255, 256, 9_999_999_999_999_999_999_u64] {
+    for slot in [16, 17, 99, 255, 256, 1000, 9_999_999_999_999_999_999_u64] {
         let line = format!("(window {slot} (2000-01-01T00:00:00 2000-01-01T00:00:01))");
-        assert_eq!(ask(&mut keeper, line), "(no 2)");
+        assert_eq!(ask(&mut keeper, &line), "(no 2)");
+        assert_eq!(ask(&mut keeper, grouped_line(&line, 1)), "(no 2)");
     }
 }
 
@@ -177,6 +178,11 @@ fn dates_of_another_shape() {
         "2000-01-01T 0:00:00", "2000-01-01T00:00: 0", "2_00-01-01T00:00:00", "2000-01-01T00:00:00.0",
         "20000-1-01T00:00:00", "2000-01-01T0:000:00", "2000-01-01T000:0:00", "0000000000000000000",
         "2000-01-01T00-00-00", "2000:01:01T00:00:00", "YYYY-MM-DDTHH:MM:SS",
+        // "Dates take no `_`", also where a numeral might, and at any width.
+        "2_000-01-01T00:00:00", "20_00-01-01T00:00:00", "_200-01-01T00:00:00", "200_-01-01T00:00:00",
+        "_2000-01-01T00:00:00", "2000_-01-01T00:00:00", "2000-_1-01T00:00:00", "2000-0_1-01T00:00:00",
+        "2000-01-0_T00:00:00", "2000-01-01T_0:00:00", "2000-01-01T00:0_:00", "2000-01-01T00:00:0_",
+        "2000-01-01T00:00:00_", "2000-01-01T00:00:_00", "2000_01_01T00:00:00", "2000-01-01_00:00:00",
     ] {
         for line in [format!("(window 1 ({date} {good}))"), format!("(window 1 ({good} {date}))")] {
             assert_eq!(ask(&mut between(0, 0), &line), "(no 1)", "{line:?}");

@@ -3,7 +3,7 @@ use borrow.Author.Needs.{needs}
 use borrow.Author.Tests.{not-true, not-false}
 use mathlib.Core.Path.{sym, _∙_}
 use native.Mathlib.Omega.{arith}
-use Rattle.numeral.proofs.Reading.{absent-none, absent-zero, absent-long, number-one, number-more}
+use Rattle.numeral.proofs.Answers.{absent-none, absent-zero, absent-long, number-one, number-more}
 use Rattle.numeral.proofs.read.finished.Statement.{statement}
 use Rattle.numeral.proofs.read.finished.Tie as tie
 

@@ -1,0 +1,195 @@
+-- Which answer a run of digits has: by its length, its first byte and the byte after it. For the proofs of the code.
+use mathlib.Core.Path.{_≡_, refl, sym, ap, _∙_}
+use mathlib.Core.Bool.{Bool, true, false, not, _&&_}
+use mathlib.Core.List.{List, [], _∷_}
+use Prim.Native.Nat.{ℕ, _+_, _-_, _<_, _≤_}
+use native.Mathlib.Omega.{arith}
+use borrow.Author.Tests.{le-leb, lt-leb, eq-eqb, ne-eqb}
+use lib.Dec.{leb}
+use lib.ListN.{length, drop, getD}
+use Rattle.bits.specs.Choice.{choose}
+use Rattle.bits.proofs.Tests.{clash, by-test}
+use Rattle.numeral.specs.Progress.{Progress, AllRead, UpToUnderscore}
+use Rattle.numeral.specs.Reading.{numeralEnds, run, valueFrom, wellFormed, firstGroup, atUnderscore, numberIn, groupsFrom, numberFrom, numberAt}
+use Rattle.numeral.specs.declared.read.Number.the-variants as N
+use Rattle.numeral.proofs.Reading.{run-none, run-underscore, run-some, ends-no-underscore, run-head}
+
+-- ---- the answer, by the length of the run and its first byte
+
+false-and : (t : Bool) → (t && false) ≡ false
+false-and true = refl
+false-and false = refl
+
+pub formed-not-empty : (r : List ℕ) → length r ≡ 0 → wellFormed r ≡ false
+unfolding wellFormed
+formed-not-empty [] h = refl
+formed-not-empty (b ∷ s) h = absurd (omega arith)
+
+pub formed-not-long : (r : List ℕ) → 19 < length r → wellFormed r ≡ false
+unfolding wellFormed
+formed-not-long [] h = absurd (omega arith)
+formed-not-long (b ∷ s) h = rw (lt-leb (length s) 18 (omega arith))
+
+pub formed-not-zero : (r : List ℕ) → 1 < length r → getD r 0 0 ≡ 48 → wellFormed r ≡ false
+unfolding wellFormed
+formed-not-zero [] h z = absurd (omega arith)
+formed-not-zero (b ∷ s) h z =
+    let some : length s ≡ 0 → ⊥ = λ e. omega arith in
+    rw (ne-eqb (length s) 0 some, eq-eqb b 48 z) (false-and (leb (length s) 18))
+
+pub formed-one : (r : List ℕ) → length r ≡ 1 → wellFormed r ≡ true
+unfolding wellFormed
+formed-one [] h = absurd (omega arith)
+formed-one (b ∷ s) h = rw (le-leb (length s) 18 (omega arith), eq-eqb (length s) 0 (omega arith))
+
+pub formed-more : (r : List ℕ) → 1 < length r → length r ≤ 19 → (getD r 0 0 ≡ 48 → ⊥) → wellFormed r ≡ true
+unfolding wellFormed
+formed-more [] h k z = absurd (omega arith)
+formed-more (b ∷ s) h k z =
+    let some : length s ≡ 0 → ⊥ = λ e. omega arith in
+    rw (le-leb (length s) 18 (omega arith), ne-eqb (length s) 0 some, ne-eqb b 48 z)
+
+-- ---- the digits before the first `_`
+
+pub first-group-none : (r : List ℕ) → length r ≡ 0 → firstGroup r ≡ false
+unfolding firstGroup
+first-group-none r h = rw h
+
+pub first-group-long : (r : List ℕ) → 3 < length r → firstGroup r ≡ false
+unfolding firstGroup
+first-group-long r h = rw (le-leb 1 (length r) (omega arith), lt-leb (length r) 3 h)
+
+pub first-group-zero : (r : List ℕ) → getD r 0 0 ≡ 48 → firstGroup r ≡ false
+unfolding firstGroup
+first-group-zero r z = rw z (false-and-both (leb 1 (length r)) (leb (length r) 3))
+  where
+    false-and-both : (s t : Bool) → (s && (t && false)) ≡ false
+    false-and-both true t = false-and t
+    false-and-both false t = refl
+
+pub first-group-some : (r : List ℕ) → 1 ≤ length r → length r ≤ 3 → (getD r 0 0 ≡ 48 → ⊥) → firstGroup r ≡ true
+unfolding firstGroup
+first-group-some r h k z = rw (le-leb 1 (length r) h, le-leb (length r) 3 k, ne-eqb (getD r 0 0) 48 z)
+
+-- ---- the answer where digits are read up to a place
+
+module _ (line : List ℕ) (at : ℕ) where
+  abbrev r : List ℕ
+  r = run (drop at line)
+
+  abbrev rest : List ℕ
+  rest = drop (at + length r) line
+
+  -- no `_` after the run; a `_` after it
+  plain-at : atUnderscore rest ≡ false → numberAt line at ≡ numberIn r at
+  unfolding numberAt numberFrom
+  plain-at m = rw m
+
+  first-at : atUnderscore rest ≡ true → firstGroup r ≡ true → numberAt line at ≡ groupsFrom (valueFrom 0 r) (length r) (at + length r) rest
+  unfolding numberAt numberFrom
+  first-at m e = rw (m, e)
+
+  absent-first : atUnderscore rest ≡ true → firstGroup r ≡ false → numberAt line at ≡ N.Absent
+  unfolding numberAt numberFrom
+  absent-first m e = rw (m, e)
+
+  absent-in : wellFormed r ≡ false → numberIn r at ≡ N.Absent
+  unfolding numberIn
+  absent-in e = rw e
+
+  absent-both : (atUnderscore rest ≡ false → wellFormed r ≡ false) → firstGroup r ≡ false → numberAt line at ≡ N.Absent
+  absent-both p q = by-test (atUnderscore rest) (λ m. absent-first m q) (λ m. plain-at m ∙ absent-in (p m))
+
+-- The digits up to a place are read, and the run ends there.
+module _ {line : List ℕ} {at value next : ℕ} (p : Progress line at value next) where
+  here : at + (next - at) ≡ next
+  here = omega arith
+
+  longer : length (run (drop at line)) ≡ (next - at) + length (run (drop next line))
+  longer = rw here at (p .passed .long)
+
+  module _ (ends : run (drop next line) ≡ []) where
+    none : run (drop (at + (next - at)) line) ≡ []
+    none = rw here ends
+
+    long-is : length (run (drop at line)) ≡ next - at
+    long-is = p .passed .long ∙ rw none (omega arith)
+
+    value-is : valueFrom 0 (run (drop at line)) ≡ value
+    unfolding valueFrom
+    value-is = p .passed .value 0 ∙ rw none (omega arith)
+
+    place-is : at + length (run (drop at line)) ≡ next
+    place-is = rw long-is here
+
+-- The digits up to a place are read, and they are all of the run or 19.
+module _ {line : List ℕ} {at value next : ℕ} (read : AllRead line at value next) where
+  long : length (run (drop at line)) ≡ (next - at) + length (run (drop next line))
+  long = longer (read .progress)
+
+  pub absent-zero : 1 < next - at → getD line at 0 ≡ 48 → numberAt line at ≡ N.Absent
+  absent-zero h z =
+      let first : getD (run (drop at line)) 0 0 ≡ 48 = run-head line at (omega (arith, long)) ∙ z in
+      absent-both line at (λ m. formed-not-zero _ (omega (arith, long)) first) (first-group-zero _ first)
+
+  -- a twentieth digit, or a `_` after nineteen
+  pub absent-long : next - at ≡ 19 → numeralEnds (drop next line) ≡ false → numberAt line at ≡ N.Absent
+  absent-long h e = absent-both line at (λ m. formed-not-long _ (more m)) (first-group-long _ (omega (arith, long)))
+    where
+      stops : atUnderscore (drop (at + length (run (drop at line))) line) ≡ false → atUnderscore (drop next line) ≡ true → ⊥
+      stops m t = clash t (rw (place-is (read .progress) (run-underscore (drop next line) t)) at m)
+
+      more : atUnderscore (drop (at + length (run (drop at line))) line) ≡ false → 19 < length (run (drop at line))
+      more m = by-test (atUnderscore (drop next line)) (λ t. absurd (stops m t)) (λ t. omega (arith, long, run-some (drop next line) e t))
+
+  -- the numeral ends at the place
+  module _ (ends : numeralEnds (drop next line) ≡ true) where
+    stopped : run (drop next line) ≡ []
+    stopped = run-none (drop next line) ends
+
+    plain-here : numberAt line at ≡ numberIn (run (drop at line)) at
+    plain-here = plain-at line at (rw (place-is (read .progress) stopped) (ends-no-underscore (drop next line) ends))
+
+    number : wellFormed (run (drop at line)) ≡ true → numberAt line at ≡ N.Of value next
+    unfolding numberIn
+    number e = plain-here ∙ rw (e, value-is (read .progress) stopped, place-is (read .progress) stopped)
+
+    pub number-more : 1 < next - at → (getD line at 0 ≡ 48 → ⊥) → numberAt line at ≡ N.Of value next
+    number-more h z =
+        let count = long-is (read .progress) stopped in
+        number (formed-more _ (omega (arith, count)) (omega (arith, count)) (λ e. z (sym (run-head line at (omega (arith, count))) ∙ e)))
+
+  pub number-one : next - at ≡ 1 → numberAt line at ≡ N.Of value next
+  number-one h =
+      let ends = read .last (omega arith) in
+      number ends (formed-one _ (long-is (read .progress) (stopped ends) ∙ h))
+
+  pub absent-none : next - at ≡ 0 → numberAt line at ≡ N.Absent
+  absent-none h =
+      let ends = read .last (omega arith) in
+      plain-here ends ∙ absent-in line at (formed-not-empty _ (long-is (read .progress) (stopped ends) ∙ h))
+
+-- The digits up to a place are read, and a `_` follows them.
+module _ {line : List ℕ} {at value next : ℕ} (read : UpToUnderscore line at value next) where
+  over : run (drop next line) ≡ []
+  over = run-underscore (drop next line) (read .follows)
+
+  count : length (run (drop at line)) ≡ next - at
+  count = long-is (read .progress) over
+
+  underscore-after : atUnderscore (drop (at + length (run (drop at line))) line) ≡ true
+  underscore-after = rw (place-is (read .progress) over) (read .follows)
+
+  pub first-none : next - at ≡ 0 → numberAt line at ≡ N.Absent
+  first-none h = absent-first line at underscore-after (first-group-none _ (count ∙ h))
+
+  pub first-long : 3 < next - at → numberAt line at ≡ N.Absent
+  first-long h = absent-first line at underscore-after (first-group-long _ (omega (arith, count)))
+
+  pub first-zero : 0 < next - at → getD line at 0 ≡ 48 → numberAt line at ≡ N.Absent
+  first-zero h z = absent-first line at underscore-after (first-group-zero _ (run-head line at (omega (arith, count)) ∙ z))
+
+  pub first-some : 0 < next - at → next - at ≤ 3 → (getD line at 0 ≡ 48 → ⊥) → numberAt line at ≡ groupsFrom value (next - at) next (drop next line)
+  first-some h k z =
+      first-at line at underscore-after (first-group-some _ (omega (arith, count)) (omega (arith, count)) (λ e. z (sym (run-head line at (omega (arith, count))) ∙ e)))
+      ∙ rw (place-is (read .progress) over, value-is (read .progress) over, count)
