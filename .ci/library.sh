@@ -11,8 +11,13 @@ CARGO_TARGET_DIR=${CARGO_TARGET_DIR:-$root/target/cargo}
 BOARDTIME_LIB_DIR=$root/target/staticlib
 export PATH CARGO_TARGET_DIR BOARDTIME_LIB_DIR
 
-# Standard output is for what the scripts themselves print.
-(
-    cd "$root" && rt staticlib boardtime_lib && rt staticlib boardtime_uplink &&
-        rt staticlib boardtime_dates
-) >&2
+# The gate, which has built them, names its folder in BOARDTIME_BUILT for the
+# scripts that it runs: another time would take half a minute, and two scripts
+# that run at the same time would write what the other links.
+if [ "${BOARDTIME_BUILT:-}" != "$root" ]; then
+    # Standard output is for what the scripts themselves print.
+    (
+        cd "$root" && rt staticlib boardtime_lib && rt staticlib boardtime_uplink &&
+            rt staticlib boardtime_dates
+    ) >&2
+fi

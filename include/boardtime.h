@@ -103,7 +103,7 @@ extern "C" {
    with 10. No answer is longer than this, and no line that is written. */
 #define BOARDTIME_OUTPUT_BYTES 256
 /* Greatest length of a line without its LF; a longer one is refused with 1. */
-#define BOARDTIME_LINE_BYTES 120
+#define BOARDTIME_LINE_BYTES 160
 
 /*
  * The number that a call returns. After any number but 0 the image, if the call
@@ -111,7 +111,8 @@ extern "C" {
  */
 /* The call was accepted. */
 #define BOARDTIME_ACCEPTED 0
-/* The line has no command's shape, or is longer than 120 bytes. */
+/* The line has no command's shape, or is longer than 160 bytes. What is no
+   numeral's spelling breaks the shape; boardtime_line says which ones are. */
 #define BOARDTIME_NO_SHAPE 1
 /* A number is outside its range, or a first edge is above the second. */
 #define BOARDTIME_OUTSIDE_RANGE 2
@@ -172,6 +173,13 @@ uint8_t boardtime_fresh(uint8_t *image, size_t image_length);
  * for an accepted line: its number is 0, but its answer has some length. The
  * numbers 10 and 255 come with length 0 and an untouched output; the numbers 1
  * to 9, 11 and 12 come with the answer `(no NUMBER)`.
+ *
+ * A numeral of a line has 1 to 19 digits, and the first of two or more is not
+ * 0. It is plain, without any `_`, or grouped, with one `_` between every two
+ * groups of three digits, counted from the right. `1_000` and `12_345_678` are
+ * numerals; `12_7`, `1000_000`, `_100`, `100_` and `0_000` are none, and a line
+ * with one of them is refused with 1. Only an edge may be negative: `-1_000`,
+ * but not `-0`. A date takes no `_`. An answer has plain numerals alone.
  */
 uint32_t boardtime_line(uint8_t *image, size_t image_length,
                         const uint8_t *line, size_t line_length,
@@ -203,8 +211,8 @@ uint8_t boardtime_pass(uint8_t *image, size_t image_length, uint64_t ticks);
 /*
  * The calls that write lines, in libboardtime_uplink.a. Each of the first eight
  * writes a command, given as its numbers, as its line: one space between parts,
- * none elsewhere, no leading zero but in a date. The line is stored at the
- * front of the output without an LF, and no byte after it is touched.
+ * none elsewhere, no leading zero but in a date, no `_`. The line is stored at
+ * the front of the output without an LF, and no byte after it is touched.
  * boardtime_line takes it as it stands; the program takes it with an LF behind
  * it, for which the output has room.
  *
@@ -272,12 +280,12 @@ uint32_t boardtime_write_window(uint8_t *out, size_t out_length, uint64_t slot,
 
 /*
  * Reads a line, which is given without its LF, and writes its command as the
- * calls above do: the line's plain spelling. For every line that can be read
- * today that is the line itself, byte for byte.
+ * calls above do: the line's plain spelling. That is the line without its `_`,
+ * so that a line that has none is written back byte for byte.
  *
  * Returns the number and the length of the spelling: 10 if the output is
  * shorter than 256 bytes; else 1 if the line has no command's shape or is
- * longer than 120 bytes; else 2 if a numeral is outside its range or a first
+ * longer than 160 bytes; else 2 if a numeral is outside its range or a first
  * edge is above the second; else 11 and 12 as above; else 0. The numbers but 0
  * come with length 0 and an untouched output. A line that still has its LF, or
  * a CR, has no command's shape.

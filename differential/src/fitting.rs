@@ -10,9 +10,11 @@ use crate::limits::{
     SECOND, SHORTEST_OUTPUT, SLOTS,
 };
 use crate::random::Random;
+use crate::spelling;
 use crate::write::Command;
 
-/// A line for the keeper of this image.
+/// A line for the keeper of this image. Its numerals are plain or grouped; now
+/// and then one `_` too many or too few makes it no command.
 pub fn line(random: &mut Random, image: &Image) -> Vec<u8> {
     // Cases are made for unreadable images too; a fresh keeper stands for them.
     let keeper = Keeper::from_image(image).unwrap_or_else(Keeper::fresh);
@@ -30,7 +32,7 @@ pub fn line(random: &mut Random, image: &Image) -> Vec<u8> {
             _ => start(random),
         }
     };
-    text.into_bytes()
+    spelling::spelled(random, text)
 }
 
 /// Mostly long enough for an answer.

@@ -15,7 +15,10 @@ pub const LAST_YEAR: u64 = 2099;
 pub const FIRST_DATED: i64 = -3_155_673_600_000_000_000;
 pub const LAST_DATED: i64 = 3_155_759_999_999_999_999;
 pub const SECOND: i64 = 1_000_000_000;
-pub const LONGEST_LINE: usize = 120;
+pub const MOST_DIGITS: usize = 19;
+pub const LONGEST_LINE: usize = 160;
+/// No longer line has a command's shape: a start with the longest numerals.
+pub const LONGEST_SHAPE: usize = 118;
 pub const SHORTEST_OUTPUT: usize = 256;
 pub const IMAGE_LENGTH: usize = 232;
 

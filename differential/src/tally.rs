@@ -4,6 +4,7 @@ use crate::answer::word;
 use crate::convert::ConvertTally;
 use crate::limits::LAST_PASS;
 use crate::program::ProgramTally;
+use crate::spelling::SpellingTally;
 use crate::touching::TouchTally;
 use crate::write::WriteTally;
 
@@ -49,6 +50,7 @@ pub struct Tally {
     /// Passes whose lower 32 bits alone would meet the limit.
     cut_passes: u64,
     freshes: Numbers,
+    pub spellings: SpellingTally,
     pub touching: TouchTally,
     pub conversions: ConvertTally,
     pub writes: WriteTally,
@@ -65,10 +67,11 @@ impl Tally {
             passes: [0; 256],
             cut_passes: 0,
             freshes: [0; 256],
+            spellings: SpellingTally::new(),
             touching: TouchTally::default(),
             conversions: ConvertTally::new(),
             writes: WriteTally::new(),
-            program: ProgramTally::default(),
+            program: ProgramTally::new(),
         }
     }
 
@@ -90,6 +93,7 @@ impl Tally {
     }
 
     pub fn line(&mut self, line: &[u8], number: u8, answer: &[u8]) {
+        self.spellings.line(line, number);
         let number = usize::from(number);
         self.lines[number] += 1;
         let command = word(line);
@@ -147,6 +151,7 @@ impl Tally {
         for (answer, count) in ANSWERS.iter().zip(&self.answers) {
             println!("  {count:>8}  {answer}");
         }
+        self.spellings.print();
         self.touching.print();
         self.program.print();
     }
@@ -173,6 +178,7 @@ impl Tally {
                 "less than {ENOUGH} passes whose lower 32 bits would be accepted"
             ));
         }
+        missing.extend(self.spellings.missing(ENOUGH));
         missing.extend(self.touching.missing(ENOUGH));
         missing.extend(self.conversions.missing(ENOUGH));
         missing.extend(self.writes.missing(ENOUGH));

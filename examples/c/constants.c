@@ -12,14 +12,17 @@
 #define LAST_TAG 16777215u
 /* Both the last moment and the most ticks. */
 #define LAST_MOMENT 4000000000000000000u
-/* The longest line that has a shape: 19 digits in every numeral. */
-#define LONGEST_SHAPE                                 \
-    "(start 9999999999999999999 im 9999999999999999999" \
-    " (-9999999999999999999 -9999999999999999999))"
+/* The longest line that has a shape: 19 digits, grouped, in every numeral. */
+#define LONGEST_SHAPE                                             \
+    "(start 9_999_999_999_999_999_999 im 9_999_999_999_999_999_999" \
+    " (-9_999_999_999_999_999_999 -9_999_999_999_999_999_999))"
 /* One of the two longest lines that are written: every part has the most
    bytes. */
 #define LONGEST_WRITTEN \
     "(start 15 mm 50000 (-4000000000000000000 -3999999999999999999))"
+/* The same command with its numerals grouped. */
+#define LONGEST_GROUPED \
+    "(start 15 mm 50_000 (-4_000_000_000_000_000_000 -3_999_999_999_999_999_999))"
 /* The longest window that is written. */
 #define LONGEST_WINDOW "(window 15 (1900-01-01T00:00:00 2099-12-31T23:59:59))"
 #define FIRST_DATED INT64_C(-3155673600000000000)
@@ -213,20 +216,21 @@ static void longest_answer(void)
 
 /*
  * What a call can show of the longest line is little: the grammar has no line
- * of more than 94 bytes, so that 95 bytes are refused with 1 for want of a
- * shape, and 121 with the same number for their length. No line tells 120 from
- * 94 or from 1000. Here: every line above the constant is refused with 1, and
+ * of more than 118 bytes, so that 119 bytes are refused with 1 for want of a
+ * shape, and 161 with the same number for their length. No line tells 160 from
+ * 118 or from 1000. Here: every line above the constant is refused with 1, and
  * the constant is not below the longest shape (which is refused with 2, for its
- * numerals). That it is 120, examples/run reads in the proved source.
+ * numerals). That it is 160, examples/run reads in the proved source.
  */
 static void lengths_of_a_line(void)
 {
     char line[2 * BOARDTIME_LINE_BYTES + sizeof LONGEST_SHAPE] = LONGEST_SHAPE;
 
     start();
-    HOLDS(strlen(LONGEST_SHAPE) == 94);
+    HOLDS(strlen(LONGEST_SHAPE) == 118);
     HOLDS(strlen(LONGEST_SHAPE) <= BOARDTIME_LINE_BYTES);
     HELD(BOARDTIME_OUTSIDE_RANGE, number_of(line));
+    HELD(BOARDTIME_OUTSIDE_RANGE, plain_of(line));
     memset(line, ' ', sizeof line);
     memcpy(line, "(read)", 6);
     for (size_t length = BOARDTIME_LINE_BYTES + 1; length <= sizeof line; length++) {
@@ -253,6 +257,31 @@ static void numbers_of_lines(void)
     HELD(BOARDTIME_ACCEPTED, number_of("(pass 3600001)"));
     HELD(BOARDTIME_TOO_LATE, number_of("(reply 4 1 (0 0))"));
     HELD(BOARDTIME_ACCEPTED, number_of(LONGEST_WINDOW));
+}
+
+/* A numeral has no `_`, or one between every two groups of three digits; what
+   is spelled otherwise has no shape. */
+static void numbers_of_spellings(void)
+{
+    start();
+    HELD(BOARDTIME_ACCEPTED, number_of("(pass 1_000)"));
+    HELD(BOARDTIME_OUTSIDE_RANGE, number_of("(pass 86_400_001)"));
+    HELD(BOARDTIME_NO_SHAPE, number_of("(pass 12_7)"));
+    HELD(BOARDTIME_NO_SHAPE, number_of("(pass 1000_000)"));
+    HELD(BOARDTIME_NO_SHAPE, number_of("(pass _100)"));
+    HELD(BOARDTIME_NO_SHAPE, number_of("(pass 100_)"));
+    HELD(BOARDTIME_NO_SHAPE, number_of("(pass 0_000)"));
+    HELD(BOARDTIME_WRONG_ORDER, number_of("(start 3 im 1_000 (-1_000 1000))"));
+    HELD(BOARDTIME_NO_SHAPE, number_of("(start 3 im 1_000 (-_100 1000))"));
+    /* Nineteen digits, and twenty. */
+    HELD(BOARDTIME_OUTSIDE_RANGE, number_of("(drop 1_000_000_000_000_000_000)"));
+    HELD(BOARDTIME_NO_SHAPE, number_of("(drop 10_000_000_000_000_000_000)"));
+    HELD(BOARDTIME_NO_SHAPE,
+         number_of("(window 15 (2_000-01-01T00:00:00 2001-01-01T00:00:00))"));
+    HELD(BOARDTIME_NO_SHAPE, plain_of("(pass 1000_000)"));
+    HOLDS(wrote(plain_of(LONGEST_GROUPED), LONGEST_WRITTEN));
+    boardtime_fresh(image, BOARDTIME_IMAGE_BYTES);
+    HELD(BOARDTIME_ACCEPTED, number_of(LONGEST_GROUPED));
 }
 
 /* All of these come before the test whether the keeper has started. */
@@ -385,6 +414,7 @@ int main(void)
     longest_answer();
     lengths_of_a_line();
     numbers_of_lines();
+    numbers_of_spellings();
     numbers_of_windows();
     numbers_of_states();
     numbers_of_passes();

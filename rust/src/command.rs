@@ -55,7 +55,8 @@ pub enum Command {
 impl Command {
     /// Writes the command's line, without an LF, at the front of `out`. No byte
     /// of `out` after the line is touched. A keeper answers the line as it
-    /// stands; the program takes it with an LF behind it.
+    /// stands; the program takes it with an LF behind it. Its numerals are
+    /// plain, without `_`.
     ///
     /// Refused with `ShortOutput` if `out` is shorter than `OUTPUT_BYTES`, else
     /// with `OutsideRange` if a number is outside its range or a first edge is
@@ -99,8 +100,8 @@ impl Command {
 }
 
 /// Reads a line, given without its LF, and writes its command as
-/// `Command::write` does: the line's plain spelling. For every line that can be
-/// read today that is the line itself.
+/// `Command::write` does: the line's plain spelling. That is the line without
+/// its `_`, so that a line that has none is written back byte for byte.
 ///
 /// Refused with `ShortOutput` if `out` is shorter than `OUTPUT_BYTES`, else with
 /// `NoShape`, `OutsideRange`, `NoDate` or `NoWindow` for what is wrong with the
@@ -111,6 +112,7 @@ impl Command {
 ///
 /// let mut out = [0; OUTPUT_BYTES];
 /// assert_eq!(plain(b"(pass 10)", &mut out), Ok(&b"(pass 10)"[..]));
+/// assert_eq!(plain(b"(pass 1_000)", &mut out), Ok(&b"(pass 1000)"[..]));
 /// assert_eq!(plain(b"(pass  10)", &mut out), Err(Refusal::NoShape));
 /// ```
 pub fn plain<'a>(line: &[u8], out: &'a mut [u8]) -> Result<&'a [u8], Refusal> {

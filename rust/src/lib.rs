@@ -46,7 +46,7 @@ pub const IMAGE_BYTES: usize = 232;
 pub const OUTPUT_BYTES: usize = 256;
 
 /// Greatest length of a line without its LF; a longer one is refused with 1.
-pub const LINE_BYTES: usize = 120;
+pub const LINE_BYTES: usize = 160;
 
 /// A board's time keeper, held as its image.
 ///
@@ -88,6 +88,24 @@ impl Keeper {
     /// Answers one line, given without its LF, at the front of `out`. No byte
     /// of `out` after the answer is touched. A refused line leaves the keeper
     /// as it was.
+    ///
+    /// A numeral of a line has 1 to 19 digits, and the first of two or more is
+    /// not 0. It is plain, without any `_`, or grouped, with one `_` between
+    /// every two groups of three digits, counted from the right. Only an edge
+    /// may be negative. A date takes no `_`. An answer has plain numerals alone.
+    ///
+    /// ```
+    /// use boardtime::{Keeper, OUTPUT_BYTES};
+    ///
+    /// let mut out = [0; OUTPUT_BYTES];
+    /// let mut keeper = Keeper::fresh();
+    /// keeper.answer(b"(start 3 im 200 (-1_000 1_000))", &mut out);
+    /// let answer = keeper.answer(b"(pass 1_000)", &mut out);
+    /// assert_eq!(answer.bytes, b"(at 1000 (999799000 1000201000))\n");
+    /// for refused in [&b"(pass 12_7)"[..], b"(pass 1000_000)", b"(pass _100)"] {
+    ///     assert_eq!(keeper.answer(refused, &mut out).number, 1);
+    /// }
+    /// ```
     pub fn answer<'a>(&mut self, line: &[u8], out: &'a mut [u8]) -> Answer<'a> {
         let returned = image::line(&mut self.image, line, out);
         Answer {

@@ -130,8 +130,8 @@ pub fn write_window(out: &mut [u8], slot: u64, start: &Date, end: &Date) -> Retu
     })
 }
 
-/// Reads a line, given without its LF, and writes its command. Returns 0, 1, 2,
-/// 10, 11 or 12.
+/// Reads a line, given without its LF, and writes its command: the line without
+/// its `_`. Returns 0, 1, 2, 10, 11 or 12.
 pub fn plain(line: &[u8], out: &mut [u8]) -> Returned {
     // SAFETY: the pointers of the slices are not null and each is valid for
     // its length. The output is borrowed mutably, so it does not overlap the

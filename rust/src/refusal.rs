@@ -7,7 +7,8 @@ use core::fmt;
 #[derive(Clone, Copy, PartialEq, Eq, Hash, Debug)]
 #[repr(u8)]
 pub enum Refusal {
-    /// The line has no command's shape, or is longer than 120 bytes.
+    /// The line has no command's shape, or is longer than 160 bytes. What is no
+    /// numeral's spelling breaks the shape; `Keeper::answer` says which ones are.
     NoShape = 1,
     /// A number is outside its range, or a first edge is above the second.
     OutsideRange = 2,

@@ -60,6 +60,53 @@ const COMMANDS: [(Command, &str); 10] = [
     ),
 ];
 
+/// Grouped numerals at every place whose range has some, also beside plain ones,
+/// each line with its plain spelling.
+const GROUPED: [(&str, &str); 5] = [
+    (
+        "(start 15 mm 50_000 (-4_000_000_000_000_000_000 -3_999_999_999_999_999_999))",
+        "(start 15 mm 50000 (-4000000000000000000 -3999999999999999999))",
+    ),
+    (
+        "(start 3 im 200 (-1_000 1000))",
+        "(start 3 im 200 (-1000 1000))",
+    ),
+    ("(pass 86_400_000)", "(pass 86400000)"),
+    (
+        "(reply 15 16_777_215 (-12_345 123_456))",
+        "(reply 15 16777215 (-12345 123456))",
+    ),
+    ("(reply 4 1000 (0 1_000_000))", "(reply 4 1000 (0 1000000))"),
+];
+
+/// The ticks of a pass, or an edge, that are no numerals: not every group has
+/// its `_`, a group has not three digits, or `_` stands where no group begins;
+/// and a leading zero, a sign that is out of place, twenty digits.
+const NO_TICKS: [&str; 14] = [
+    "12_7",
+    "1000_000",
+    "1_000000",
+    "_100",
+    "100_",
+    "_",
+    "1__000",
+    "1_00",
+    "1_0000",
+    "0_000",
+    "001_000",
+    "-1_000",
+    "+1_000",
+    "10_000_000_000_000_000_000",
+];
+const NO_EDGES: [&str; 6] = [
+    "-_100",
+    "_-100",
+    "-100_",
+    "-1000_000",
+    "-0_000",
+    "-10_000_000_000_000_000_000",
+];
+
 /// Each has one number that is the first refused, or one that would be accepted
 /// if it were cut short, or edges in the wrong order.
 const REFUSED: [Command; 16] = [
@@ -148,6 +195,53 @@ fn lines_that_can_be_read_are_written_back() {
         let mut out = [UNTOUCHED; OUTPUT_BYTES + 9];
         assert_eq!(plain(line.as_bytes(), &mut out), Ok(line.as_bytes()));
         assert!(out[line.len()..].iter().all(|&byte| byte == UNTOUCHED));
+    }
+}
+
+#[test]
+fn grouped_numerals_are_written_back_plain() {
+    for (line, expected) in GROUPED {
+        let mut out = [UNTOUCHED; OUTPUT_BYTES];
+        assert_eq!(plain(line.as_bytes(), &mut out), Ok(expected.as_bytes()));
+        let rest = &out[expected.len()..];
+        assert!(rest.iter().all(|&byte| byte == UNTOUCHED), "{line}");
+    }
+}
+
+#[test]
+fn what_is_no_numeral_is_not_read() {
+    let passes = NO_TICKS.map(|ticks| format!("(pass {ticks})"));
+    let starts = NO_EDGES.map(|edge| format!("(start 3 im 200 ({edge} 1000))"));
+    let dates = [
+        "(window 0 (2_000-01-01T00:00:00 2001-01-01T00:00:00))".into(),
+        "(window 0 (2000-01-01T00:00:00 2_001-01-01T00:00:00))".into(),
+    ];
+    for line in passes.iter().chain(&starts).chain(&dates) {
+        let mut out = [UNTOUCHED; OUTPUT_BYTES];
+        let refused = plain(line.as_bytes(), &mut out);
+        assert_eq!(refused, Err(Refusal::NoShape), "{line}");
+        assert_eq!(out, [UNTOUCHED; OUTPUT_BYTES], "{line}");
+    }
+}
+
+/// Each is a numeral, so that its range is asked.
+#[test]
+fn grouped_numerals_outside_their_ranges_are_refused() {
+    let mut out = [UNTOUCHED; OUTPUT_BYTES];
+    for line in [
+        "(pass 86_400_001)",
+        "(request 1_000)",
+        "(start 1_000 im 200 (-1000 1000))",
+        "(start 3 im 50_001 (-1000 1000))",
+        "(start 3 im 200 (1_000 -1_000))",
+        "(reply 4 16_777_216 (0 0))",
+        "(reply 4 1 (0 4_000_000_000_000_000_001))",
+        "(drop 9_999_999_999_999_999_999)",
+        "(window 1_000 (2000-01-01T00:00:00 2001-01-01T00:00:00))",
+    ] {
+        let refused = plain(line.as_bytes(), &mut out);
+        assert_eq!(refused, Err(Refusal::OutsideRange), "{line}");
+        assert_eq!(out, [UNTOUCHED; OUTPUT_BYTES]);
     }
 }
 

@@ -70,6 +70,53 @@ fn whole_run_of_the_specification() {
     }
 }
 
+/// Two keepers are given each line, one of them with its numerals grouped.
+#[test]
+fn grouped_numerals_are_answered_as_plain_ones() {
+    let (mut grouped, mut plain) = (Keeper::fresh(), Keeper::fresh());
+    for (line, number, answer) in [
+        ("(start 3 im 1_000 (-1_000 1_000))", 0, "(started 3)\n"),
+        ("(pass 12_345)", 0, "(at 12345 (12332654000 12357346000))\n"),
+        ("(request 4)", 0, "(sent 4 1)\n"),
+        (
+            "(reply 4 1_000 (12_340_000_000 12350000000))",
+            7,
+            "(no 7)\n",
+        ),
+        (
+            "(reply 4 1 (12_340_000_000 12350000000))",
+            0,
+            "(taken 4 (12340000000 12350000000))\n",
+        ),
+    ] {
+        let expected = (number, answer.into());
+        assert_eq!(answered(&mut grouped, line), expected);
+        assert_eq!(answered(&mut plain, &line.replace('_', "")), expected);
+        assert_eq!(grouped, plain);
+    }
+}
+
+#[test]
+fn what_is_no_numeral_is_not_answered() {
+    let mut keeper = started();
+    let before = keeper.clone();
+    for line in [
+        "(pass 12_7)",
+        "(pass 1000_000)",
+        "(pass _100)",
+        "(pass 100_)",
+        "(pass 1__000)",
+        "(pass 0_000)",
+        "(request _4)",
+        "(reply 4 1_ (0 0))",
+        "(reply 4 1 (-_100 0))",
+        "(window 0 (2_000-01-01T00:00:00 2001-01-01T00:00:00))",
+    ] {
+        assert_eq!(answered(&mut keeper, line), (1, "(no 1)\n".into()));
+        assert_eq!(keeper, before);
+    }
+}
+
 #[test]
 fn kept_image_goes_on() {
     let mut keeper = started();

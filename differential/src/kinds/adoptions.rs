@@ -4,6 +4,7 @@
 use super::states;
 use crate::limits::{LAST_CLAIM, LAST_MOMENT, SHORTEST_OUTPUT};
 use crate::random::Random;
+use crate::spelling::some_grouped;
 use crate::test::Test;
 
 const RUNS: u64 = 40_000;
@@ -40,8 +41,10 @@ fn adopt(test: &mut Test, random: &mut Random) {
 
     let start = format!("(start 2 mm {claim} ({lower} {upper}))");
     let pass = format!("(pass {wait})");
+    let leading = trailing + replied_width;
+    let reply = format!("(reply 5 1 ({trailing} {leading}))");
+    let [start, pass, reply] = [start, pass, reply].map(|line| some_grouped(random, line));
     let mut image = states::after(test, &[&start, "(request 5)", &pass]);
-    let reply = format!("(reply 5 1 ({trailing} {}))", trailing + replied_width);
     test.line(&mut image, reply.as_bytes(), SHORTEST_OUTPUT);
     test.line(&mut image, b"(read)", SHORTEST_OUTPUT);
 }

@@ -9,7 +9,7 @@ use crate::limits::{Image, IMAGE_LENGTH, LAST_CLAIM, LAST_MOMENT, LAST_TAG, LAST
 use crate::random::Random;
 use crate::test::Test;
 
-const RANDOM_FIELDS: u64 = 1_500_000;
+const RANDOM_FIELDS: u64 = 1_300_000;
 const RANDOM_BYTES: u64 = 60_000;
 
 pub fn run(test: &mut Test) {

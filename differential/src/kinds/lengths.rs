@@ -2,7 +2,7 @@
 
 use super::states;
 use crate::lent::LONGEST;
-use crate::limits::{Image, IMAGE_LENGTH, LONGEST_LINE, SHORTEST_OUTPUT};
+use crate::limits::{Image, IMAGE_LENGTH, LONGEST_LINE, LONGEST_SHAPE, SHORTEST_OUTPUT};
 use crate::random::Random;
 use crate::test::Test;
 
@@ -23,7 +23,15 @@ const LINES: &[&str] = &[
     "(window 15 (2000-01-01T00:00:00 2000-01-01T00:00:00))",
     "(pass 86400001)",
     "(pass 12x7)",
+    "(pass 12_345)",
+    LONGEST_FORM,
 ];
+
+/// A line of the greatest length that has a command's shape.
+const LONGEST_FORM: &str = concat!(
+    "(start 9_999_999_999_999_999_999 mm 9_999_999_999_999_999_999",
+    " (-9_999_999_999_999_999_999 -9_999_999_999_999_999_999))"
+);
 
 pub fn run(test: &mut Test) {
     lines(test);
@@ -31,13 +39,16 @@ pub fn run(test: &mut Test) {
     images(test);
 }
 
-/// Lines of every length; more of them about the greatest length.
+/// Lines of every length; more of them about the greatest length, and about that
+/// of the longest shape.
 fn lines(test: &mut Test) {
     let mut random = test.begin("lines of every length");
     let states = states::all(test);
+    assert_eq!(LONGEST_FORM.len(), LONGEST_SHAPE);
     for state in &states {
         for length in 0..=LONGEST {
-            let near_limit = length.abs_diff(LONGEST_LINE) <= 2;
+            let near = |limit: usize| length.abs_diff(limit) <= 2;
+            let near_limit = near(LONGEST_LINE) || near(LONGEST_SHAPE);
             for _ in 0..if near_limit { 100 } else { 1 } {
                 for line in LINES {
                     line_of_length(test, &mut random, *state, line.as_bytes(), length);
@@ -57,7 +68,7 @@ fn line_of_length(
     length: usize,
 ) {
     let mut long = line.to_vec();
-    let byte = random.pick(b" 0)(19\n\0");
+    let byte = random.pick(b" 0)(19_\n\0");
     let at = random.place(line.len() + 1);
     while long.len() < length {
         long.insert(at, byte);

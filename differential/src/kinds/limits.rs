@@ -4,9 +4,10 @@ use super::states;
 use crate::fitting;
 use crate::limits::{Image, LAST_CLAIM, LAST_MOMENT, LAST_PASS, SHORTEST_OUTPUT};
 use crate::random::Random;
+use crate::spelling::{all_grouped, some_grouped, spelled};
 use crate::test::Test;
 
-const MIXED_LINES: u64 = 600_000;
+const MIXED_LINES: u64 = 500_000;
 const PASSES: u64 = 20_000;
 
 /// What may stand at one place of a line.
@@ -20,15 +21,20 @@ struct Place {
 const LONG: &[&str] = &[
     "4000000000000000000",
     "9999999999999999999",
+    "9_999_999_999_999_999_999",
     "-4000000000000000000",
     "-9999999999999999999",
+    "-9_999_999_999_999_999_999",
     "10000000000000000000",
+    "10_000_000_000_000_000_000",
     "-10000000000000000000",
 ];
 
 const PEER: Place = Place {
     ordinary: &["1", "4", "15"],
-    at_limits: &["0", "3", "14", "15", "16", "17", "255", "256", "272"],
+    at_limits: &[
+        "0", "3", "14", "15", "16", "17", "255", "256", "272", "1_000", "65_540",
+    ],
     long: LONG,
 };
 const RULE: Place = Place {
@@ -58,7 +64,7 @@ const TAG: Place = Place {
     long: LONG,
 };
 const TICKS: Place = Place {
-    ordinary: &["1", "1000"],
+    ordinary: &["1", "1000", "1_000"],
     at_limits: &[
         "0",
         "86399999",
@@ -71,7 +77,7 @@ const TICKS: Place = Place {
     long: LONG,
 };
 const EDGE: Place = Place {
-    ordinary: &["-1000", "0", "1000"],
+    ordinary: &["-1000", "-1_000", "0", "1000", "1_000"],
     at_limits: &[
         "-1",
         "1",
@@ -92,7 +98,9 @@ const EDGE: Place = Place {
 
 const SLOT: Place = Place {
     ordinary: &["0", "5", "15"],
-    at_limits: &["0", "9", "10", "14", "15", "16", "17", "255", "256", "272"],
+    at_limits: &[
+        "0", "9", "10", "14", "15", "16", "17", "255", "256", "272", "1_000", "65_540",
+    ],
     long: LONG,
 };
 const DATE: Place = Place {
@@ -154,7 +162,7 @@ const DATE: Place = Place {
 };
 
 /// What has no numeral's spelling or breaks every limit: leading zeros, signs,
-/// 19 and 20 digits, bytes beside the digits.
+/// 19 and 20 digits, bytes beside the digits, `_` where no group begins.
 const ODD: &[&str] = &[
     "00",
     "01",
@@ -171,7 +179,15 @@ const ODD: &[&str] = &[
     "x1",
     "1/",
     "1:",
-    "1_000",
+    "12_7",
+    "1000_000",
+    "_100",
+    "100_",
+    "1__000",
+    "0_000",
+    "001_000",
+    "-_100",
+    "-1_000",
     "-1",
     "9999999999999999999",
     "10000000000000000000",
@@ -213,14 +229,16 @@ pub fn run(test: &mut Test) {
             .iter()
             .map(|place| mixed(&mut random, place))
             .collect();
-        give(test, state, &spell(texts, &values));
+        let line = spelled(&mut random, spell(texts, &values));
+        give(test, state, &line);
     }
     for _ in 0..PASSES {
         pass_to_the_end(test, &mut random);
     }
 }
 
-/// Every value at every place, with ordinary values elsewhere.
+/// Every value at every place, with ordinary values elsewhere, and each line also
+/// grouped.
 fn one_place_at_a_time(test: &mut Test, random: &mut Random, state: &Image) {
     for (texts, places) in FORMS {
         for (at, place) in places.iter().enumerate() {
@@ -230,7 +248,9 @@ fn one_place_at_a_time(test: &mut Test, random: &mut Random, state: &Image) {
                     .map(|place| random.pick(place.ordinary))
                     .collect();
                 values[at] = value;
-                give(test, *state, &spell(texts, &values));
+                let line = spell(texts, &values);
+                give(test, *state, line.as_bytes());
+                give(test, *state, all_grouped(&line).as_bytes());
             }
         }
     }
@@ -248,7 +268,7 @@ fn long_everywhere(test: &mut Test, state: &Image) {
                 values.push(place.long[rest % place.long.len()]);
                 rest /= place.long.len();
             }
-            give(test, *state, &spell(texts, &values));
+            give(test, *state, spell(texts, &values).as_bytes());
         }
     }
 }
@@ -270,8 +290,8 @@ fn spell(texts: &[&str], values: &[&str]) -> String {
     line
 }
 
-fn give(test: &mut Test, mut state: Image, line: &str) {
-    test.line(&mut state, line.as_bytes(), SHORTEST_OUTPUT);
+fn give(test: &mut Test, mut state: Image, line: &[u8]) {
+    test.line(&mut state, line, SHORTEST_OUTPUT);
 }
 
 /// A pass that takes the upper edge just to the end of the range, or one
@@ -282,8 +302,9 @@ fn pass_to_the_end(test: &mut Test, random: &mut Random) {
     let past = random.between(-1, 1);
     let upper = LAST_MOMENT - ticks * (1_000_000 + claim) + past;
     let start = format!("(start 1 im {claim} ({} {upper}))", upper - 5);
-    let mut image = states::after(test, &[&start]);
     let pass = format!("(pass {ticks})");
+    let [start, pass] = [start, pass].map(|line| some_grouped(random, line));
+    let mut image = states::after(test, &[&start]);
     test.line(&mut image, pass.as_bytes(), SHORTEST_OUTPUT);
     test.line(&mut image, b"(read)", fitting::out_length(random));
 }

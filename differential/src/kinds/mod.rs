@@ -11,6 +11,7 @@ mod limits;
 mod passes;
 mod program;
 mod sessions;
+mod spellings;
 mod states;
 mod waits;
 mod windows;
@@ -21,6 +22,7 @@ use crate::test::Test;
 pub fn run_all(test: &mut Test) {
     sessions::run(test);
     limits::run(test);
+    spellings::run(test);
     waits::run(test);
     adoptions::run(test);
     damage::run(test);

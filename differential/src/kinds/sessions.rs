@@ -4,7 +4,7 @@ use crate::fitting;
 use crate::limits::IMAGE_LENGTH;
 use crate::test::Test;
 
-const SESSIONS: u64 = 16_000;
+const SESSIONS: u64 = 13_000;
 const LINES: u64 = 400;
 
 pub fn run(test: &mut Test) {

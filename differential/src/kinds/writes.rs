@@ -10,6 +10,7 @@ use crate::limits::{
     Image, LAST_CLAIM, LAST_MOMENT, LAST_PASS, LAST_TAG, PEERS, SHORTEST_OUTPUT, SLOTS,
 };
 use crate::random::Random;
+use crate::spelling::some_grouped;
 use crate::test::Test;
 use crate::write::Command;
 
@@ -215,8 +216,9 @@ fn of_random_numbers(test: &mut Test) {
     }
 }
 
-/// What is written is then given to a keeper. That both sides answer the same
-/// shows that the line is read as the command that it was written from.
+/// What is written is then given to a keeper, also grouped. That both sides
+/// answer the same shows that the line is read as the command that it was
+/// written from.
 fn write_and_read(
     test: &mut Test,
     random: &mut Random,
@@ -226,7 +228,8 @@ fn write_and_read(
 ) {
     if let Some(line) = test.write(command, out_length) {
         let mut image = random.pick(states);
-        test.line(&mut image, &line, SHORTEST_OUTPUT);
+        let line = some_grouped(random, line);
+        test.line(&mut image, line.as_bytes(), SHORTEST_OUTPUT);
     }
 }
 

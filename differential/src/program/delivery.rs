@@ -7,7 +7,8 @@ use crate::random::Random;
 /// Lengths of pieces about the lengths that a program may treat in a way of
 /// their own: one byte, the longest line, a page, a buffer of 64 KiB.
 pub const LENGTHS: &[usize] = &[
-    1, 2, 3, 7, 61, 119, 120, 121, 122, 123, 255, 256, 257, 4093, 65_535, 65_536, 65_537,
+    1, 2, 3, 7, 61, 118, 119, 120, 121, 159, 160, 161, 162, 163, 255, 256, 257, 4093, 65_535,
+    65_536, 65_537,
 ];
 
 /// About how many pauses a run has, if it has as many pieces. Each takes some

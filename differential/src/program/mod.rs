@@ -31,7 +31,8 @@ impl Test {
         let found = match self.program.run(input, delivery) {
             Ok(ran) => {
                 let counts = &mut self.tally.program;
-                counts.run(input, delivery, &numbers, ran.stdout.len());
+                counts.run(input, delivery, ran.stdout.len());
+                counts.lines(&lines, &numbers);
                 compare(&lines, &answers, &ran)
             }
             Err(error) => Err(format!("the program can't be run: {error}")),
@@ -40,7 +41,11 @@ impl Test {
             self.report_program(&difference, input, delivery);
             process::exit(1);
         }
-        for (line, _) in lines.iter().zip(&numbers).filter(|(_, &number)| number == 0) {
+        for (line, _) in lines
+            .iter()
+            .zip(&numbers)
+            .filter(|(_, &number)| number == 0)
+        {
             self.write_back(line);
         }
     }

@@ -3,21 +3,24 @@
 use std::fmt;
 
 use super::{Delivery, End};
-use crate::tally::print_numbers;
+use crate::tally::{print_numbers, seldom, Numbers};
 
 /// The numbers that a line can be given in a run. The program lends enough
 /// output for every line, and a run that spends all tags would be too long.
 const NUMBERS: [u8; 11] = [0, 1, 2, 3, 4, 5, 6, 7, 8, 11, 12];
-const MOST: usize = 12;
+/// The numbers that lines with `_` have to be given: no request or window that is
+/// judged further has one, and what leaves the range seldom has.
+const SPELLED: [u8; 7] = [0, 1, 2, 3, 4, 7, 8];
 
-#[derive(Default)]
 pub struct ProgramTally {
     from_a_file: u64,
     through_a_pipe: u64,
     pieces: usize,
     bytes_read: usize,
     bytes_written: usize,
-    lines: [u64; MOST + 1],
+    lines: Numbers,
+    /// Those with `_`.
+    spelled: Numbers,
     failed_reads: u64,
     failed_writes: u64,
     signals: u64,
@@ -26,7 +29,23 @@ pub struct ProgramTally {
 }
 
 impl ProgramTally {
-    pub fn run(&mut self, input: &[u8], delivery: &Delivery, numbers: &[u8], written: usize) {
+    pub fn new() -> ProgramTally {
+        ProgramTally {
+            from_a_file: 0,
+            through_a_pipe: 0,
+            pieces: 0,
+            bytes_read: 0,
+            bytes_written: 0,
+            lines: [0; 256],
+            spelled: [0; 256],
+            failed_reads: 0,
+            failed_writes: 0,
+            signals: 0,
+            not_failed: 0,
+        }
+    }
+
+    pub fn run(&mut self, input: &[u8], delivery: &Delivery, written: usize) {
         match delivery {
             Delivery::File => self.from_a_file += 1,
             Delivery::Pipe(pieces) => {
@@ -36,8 +55,14 @@ impl ProgramTally {
         }
         self.bytes_read += input.len();
         self.bytes_written += written;
-        for &number in numbers {
-            self.lines[usize::from(number)] += 1;
+    }
+
+    /// Counts the lines of a run by the number of each.
+    pub fn lines(&mut self, lines: &[&[u8]], numbers: &[u8]) {
+        for (line, &number) in lines.iter().zip(numbers) {
+            let number = usize::from(number);
+            self.lines[number] += 1;
+            self.spelled[number] += u64::from(line.contains(&b'_'));
         }
     }
 
@@ -66,6 +91,7 @@ impl ProgramTally {
             self.bytes_read, self.bytes_written
         );
         print_numbers("lines by number", &self.lines);
+        print_numbers("lines with `_` by number", &self.spelled);
         println!(
             "  {} runs with a failed read, {} with a failed write, {} ended by a signal, \
              {} that could have one and had none",
@@ -75,11 +101,10 @@ impl ProgramTally {
 
     /// The numbers that less than `enough` lines were given.
     pub fn missing(&self, enough: u64) -> Vec<String> {
-        NUMBERS
-            .iter()
-            .filter(|&&number| self.lines[usize::from(number)] < enough)
-            .map(|number| format!("the program gave {number} less than {enough} times"))
-            .collect()
+        let mut missing = seldom(enough, "the program", &NUMBERS, &self.lines);
+        let spelled = "the program, for a line with `_`,";
+        missing.extend(seldom(enough, spelled, &SPELLED, &self.spelled));
+        missing
     }
 }
 

@@ -13,13 +13,14 @@ pub use tally::WriteTally;
 
 use crate::lent::Lent;
 use crate::limits::SHORTEST_OUTPUT;
+use crate::spelling;
 use crate::test::{Returned, Test};
 use outcome::Outcome;
 
 impl Test {
     /// Has both sides write a command. Its line, if it has one, is then written
     /// back, and returned.
-    pub fn write(&mut self, command: Command, out_length: usize) -> Option<Vec<u8>> {
+    pub fn write(&mut self, command: Command, out_length: usize) -> Option<String> {
         self.tally.case();
         let before = self.output(out_length);
         let outcome = Outcome::of(
@@ -44,7 +45,7 @@ impl Test {
             return None;
         }
         self.write_back(line.as_bytes());
-        Some(line.into_bytes())
+        Some(line)
     }
 
     /// Has both sides write back a line that is a command, in buffers of its own.
@@ -54,8 +55,8 @@ impl Test {
         self.plain(&line, &before, Some(0));
     }
 
-    /// Has both sides read a line and write it back. `number` is what this has
-    /// to return, if that is known.
+    /// Has both sides read a line and write it back, in its plain spelling.
+    /// `number` is what this has to return, if that is known.
     pub fn plain(&mut self, line: &Lent, before: &Lent, number: Option<u8>) {
         // The independent side is safe code and can't write to its line.
         let lent = line.clone();
@@ -65,9 +66,10 @@ impl Test {
             |out| independent::plain(line.bytes(), out).into(),
         );
         let number = number.unwrap_or(outcome.number());
+        let plain = spelling::plain(line.bytes());
         let mut found = outcome
             .compare()
-            .and_then(|()| outcome.expect(number, line.bytes()));
+            .and_then(|()| outcome.expect(number, &plain));
         if lent != *line {
             found = Err("the line was changed");
         }
@@ -75,7 +77,8 @@ impl Test {
             let call = format!("plain `{}`", line.bytes().escape_ascii());
             self.report_written(difference, &call, &outcome);
         }
-        self.tally.writes.plain(number);
+        let is_plain = plain.len() == line.bytes().len();
+        self.tally.writes.plain(number, is_plain);
     }
 
     fn report_written(&self, difference: &str, call: &str, outcome: &Outcome) -> ! {

@@ -23,6 +23,8 @@ const CUT: [(u8, &str); 2] = [(2, "commands"), (11, "dates of windows")];
 pub struct WriteTally {
     forms: [Numbers; FORMS.len()],
     plain: Numbers,
+    /// Lines with `_` that were written back without it.
+    made_plain: u64,
     /// Refused commands whose lower bits alone would be allowed, by the refusal
     /// and the width.
     cut: [[u64; WIDTHS.len()]; CUT.len()],
@@ -33,6 +35,7 @@ impl WriteTally {
         WriteTally {
             forms: [[0; 256]; FORMS.len()],
             plain: [0; 256],
+            made_plain: 0,
             cut: [[0; WIDTHS.len()]; CUT.len()],
         }
     }
@@ -60,8 +63,9 @@ impl WriteTally {
         cut
     }
 
-    pub fn plain(&mut self, number: u8) {
+    pub fn plain(&mut self, number: u8, is_plain: bool) {
         self.plain[usize::from(number)] += 1;
+        self.made_plain += u64::from(number == 0 && !is_plain);
     }
 
     /// How many commands were given to both sides.
@@ -82,6 +86,10 @@ impl WriteTally {
             println!("  {words}: {count} times");
         }
         print_numbers("boardtime_plain", &self.plain);
+        println!(
+            "  lines written back without their `_`: {} times",
+            self.made_plain
+        );
     }
 
     pub fn missing(&self, enough: u64) -> Vec<String> {
@@ -93,6 +101,11 @@ impl WriteTally {
             if count < enough {
                 missing.push(format!("less than {enough} {words}"));
             }
+        }
+        if self.made_plain < enough {
+            missing.push(format!(
+                "less than {enough} lines written back without their `_`"
+            ));
         }
         missing
     }

@@ -32,9 +32,13 @@ const SHORT: &[&[u8]] = &[
     b"(start 3 im 200 (-1000 1000))\n(pass 1)\n(rea",
     b"(start 3 im 200 (0 0))\n(window 3 (1999-12-31T23:59:59 2000-01-01T00:00:00))",
     b"(start 3 im 200 (-1 -1))\n(window 3 (1999-12-31T23:59:59 2000-01-01T00:00:00))\n(rea",
-    // The longest command, and a line that begins with it.
+    // The longest start, plain and grouped, and lines that begin with it.
     b"(start 15 mm 50000 (-4000000000000000000 -3999999999999999999))",
     b"(start 15 mm 50000 (-4000000000000000000 -3999999999999999999))x\n(read)",
+    b"(start 15 mm 50_000 (-4_000_000_000_000_000_000 -3_999_999_999_999_999_999))",
+    b"(start 15 mm 50_000 (-4_000_000_000_000_000_000 -3_999_999_999_999_999_999))_\n(read)",
+    b"(start 3 im 200 (-1_000 1_000))\n(pass 1_000)\n(pass 1_00",
+    b"(start 3 im 200 (-1_000 1_000))\n(pass 1000_000)\n(pass 1_000)",
 ];
 
 /// Where an input may end: just before, at and after the end of a buffer.
@@ -42,8 +46,11 @@ const TOTALS: &[usize] = &[
     400, 4096, 65_535, 65_536, 65_537, 131_071, 131_072, 131_073, 196_608,
 ];
 
-/// Lengths of a last line. Most are about the greatest length of a line.
-const LENGTHS: &[usize] = &[0, 1, 6, 8, 55, 119, 120, 121, 122, 123, 300];
+/// Lengths of a last line. Most are about the greatest length of a line, or of
+/// one that has a shape.
+const LENGTHS: &[usize] = &[
+    0, 1, 6, 8, 55, 67, 118, 119, 120, 121, 159, 160, 161, 162, 163, 300,
+];
 
 pub fn run(test: &mut Test) {
     short(test);
@@ -56,7 +63,7 @@ fn short(test: &mut Test) {
         every_way(test, &mut random, input);
     }
     // A single line, as long as a line may be and a little more.
-    for length in (117..=125).chain([65_535, 65_536, 65_537]) {
+    for length in (117..=121).chain(157..=165).chain([65_535, 65_536, 65_537]) {
         for byte in [b' ', b'x', b'(', b'\0', b'\r'] {
             let line = vec![byte; length];
             every_way(test, &mut random, &line);
@@ -84,6 +91,7 @@ fn last_line(length: usize) -> Vec<u8> {
     let command: &[u8] = match length {
         8 => b"(pass 7)",
         55 => b"(reply 1 1 (-4000000000000000000 -3999999999999999999))",
+        67 => b"(reply 1 1 (-4_000_000_000_000_000_000 -3_999_999_999_999_999_999))",
         _ => b"(read)",
     };
     let mut line = command.to_vec();

@@ -23,6 +23,8 @@ const UNFINISHED: &[&[u8]] = &[
     b"(pass 1)",
     b"(waiting)",
     b"(start 15 mm 50000 (-4000000000000000000 -3999999999999999999))",
+    b"(pass 1_",
+    b"(pass 1_000)",
 ];
 
 /// Lengths of unfinished lines that are no commands.
@@ -92,7 +94,7 @@ fn unfinished_lines(test: &mut Test) {
 /// Lines that together have this length.
 fn whole_lines(random: &mut Random, length: usize) -> Vec<u8> {
     /// More than a line has.
-    const ROOM: usize = 150;
+    const ROOM: usize = 170;
     let mut input = Input::new();
     if let Some(most) = length.checked_sub(ROOM) {
         input = Input::started(random, "im");

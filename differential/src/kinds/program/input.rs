@@ -7,6 +7,7 @@ use crate::limits::{
     Image, IMAGE_LENGTH, LAST_CLAIM, LAST_MOMENT, LAST_WAIT, PEERS, SHORTEST_OUTPUT,
 };
 use crate::random::Random;
+use crate::spelling::{some_grouped, spelled};
 
 /// Finished lines, and the keeper that they lead to.
 #[derive(Clone)]
@@ -33,8 +34,9 @@ impl Input {
         let upper = lower + random.between(0, 100_000_000_000_000);
         let claim = random.pick(&[0, 1, 200, LAST_CLAIM]);
         let board = random.place(PEERS);
+        let start = format!("(start {board} {rule} {claim} ({lower} {upper}))");
         let mut input = Input::new();
-        input.line(format!("(start {board} {rule} {claim} ({lower} {upper}))"));
+        input.line(some_grouped(random, start));
         input
     }
 
@@ -93,9 +95,10 @@ impl Input {
             return format!("(drop {peer})").into_bytes();
         }
         let line = fitting::line(random, &self.image);
-        let long_pass = line.starts_with(b"(pass ") && line.len() > b"(pass 9999)".len();
-        if long_pass && !random.one_in(10) {
-            return format!("(pass {})", random.between(1, 9999)).into_bytes();
+        let digits = line.iter().filter(|byte| byte.is_ascii_digit()).count();
+        if line.starts_with(b"(pass ") && digits > 4 && !random.one_in(10) {
+            let pass = format!("(pass {})", random.between(1, 9999));
+            return spelled(random, pass);
         }
         line
     }

@@ -16,12 +16,14 @@ pub fn run(test: &mut Test) {
     of_any_bytes(test);
 }
 
-/// Lines about the greatest length, and about the length of a buffer.
+/// Lines about the greatest length, also that of a shape, and about the length of
+/// a buffer.
 fn long(test: &mut Test) {
     let mut random = test.begin("program: long lines");
     for _ in 0..6 {
         let mut input = Input::started(&mut random, "im");
-        for length in (117..=131).chain([1000, 65_544]).chain(65_534..=65_538) {
+        let about_limits = (117..=122).chain(157..=171);
+        for length in about_limits.chain([1000, 65_544]).chain(65_534..=65_538) {
             for filling in 0..FILLINGS {
                 let line = long_line(&mut random, &input, filling, length);
                 input.line(line);

@@ -7,6 +7,7 @@ mod lines;
 mod outputs;
 mod reads;
 mod sessions;
+mod spellings;
 
 use crate::program::Delivery;
 use crate::random::Random;
@@ -15,6 +16,7 @@ use crate::test::Test;
 pub fn run(test: &mut Test) {
     sessions::run(test);
     lines::run(test);
+    spellings::run(test);
     ends::run(test);
     reads::run(test);
     outputs::run(test);

@@ -3,6 +3,7 @@
 
 use super::input::Input;
 use crate::program::Delivery;
+use crate::spelling::all_grouped;
 use crate::test::Test;
 
 /// What a program may read at once.
@@ -17,7 +18,7 @@ pub fn run(test: &mut Test) {
     let mut base = Input::started(&mut random, "im");
     base.lines_up_to(&mut random, READ - ROOM);
     base.ask_all();
-    for before in 0..=64 {
+    for before in 0..=80 {
         let mut input = with_command_at(&base, READ - before);
         // What was read of the command moves the end of the next read.
         input.lines_up_to(&mut random, 2 * READ + ROOM);
@@ -28,14 +29,14 @@ pub fn run(test: &mut Test) {
     }
 }
 
-/// The input with a reply, a long command, at this place.
+/// The input with a reply, a long command if it is grouped, at this place.
 fn with_command_at(base: &Input, place: usize) -> Input {
     let mut input = base.clone();
     let free = place.checked_sub(input.len() + 1).expect("room is left");
     input.line(vec![b' '; free]);
     assert_eq!(input.len(), place);
     let reply = input.reply().expect("all peers wait");
-    input.line(reply);
+    input.line(all_grouped(&reply));
     input.line("(read)");
     input.line("(waiting)");
     input
