@@ -15,10 +15,10 @@ use Rattle.bits.proofs.Tests.{both}
 use Rattle.text.specs.Words.{bytes}
 use Rattle.numeral.specs.Digits.{signedDigits}
 use Rattle.numeral.proofs.Digits.{digits-most}
-use Rattle.numeral.specs.Groups.{bare}
-use Rattle.numeral.proofs.GroupLaws.{bare-append, bare-same}
-use Rattle.numeral.proofs.Numerals.{numeral-bare, numeral-most}
-use Rattle.numeral.proofs.RoundTrip.{digits-numeral, signed-numeral, signed-bare, signed-most}
+use Rattle.numeral.specs.Groups.{ungrouped}
+use Rattle.numeral.proofs.GroupLaws.{ungrouped-append, ungrouped-same}
+use Rattle.numeral.proofs.Numerals.{numeral-ungrouped, numeral-most}
+use Rattle.numeral.proofs.RoundTrip.{digits-numeral, signed-numeral, signed-ungrouped, signed-most}
 use Rattle.moment.specs.declared.Interval.{Interval}
 use Rattle.moment.specs.Moment.{inRange}
 use Rattle.moment.specs.Intervals.{edgesWithin}
@@ -37,32 +37,32 @@ use Rattle.command.specs.Forms.{Form, Part, text, rule, number, edge, da
 use Rattle.command.specs.Spelling.{plainPart, plainParts, plainSpelling}
 use Rattle.command.specs.Limits.{keeps, boardWithin, claimWithin, ticksWithin, tagWithin, slotWithin}
 use Rattle.command.specs.Causes.{Cause, cause, first, formCauses, dateCauses}
-use Rattle.command.proofs.PlainBytes.{plain-carries, TextPlain, TextsPlain, part-bytes, form-texts}
+use Rattle.command.proofs.PlainBytes.{printable-carries, TextPlain, TextsPlain, part-bytes, form-texts}
 
 -- ---- a spelling without its `_` is the plain one
 
-plain-bare : (p : Part) → TextPlain p → bare (plainPart p) ≡ plainPart p
-plain-bare p h = bare-same (plainPart p) (plain-carries (plainPart p) (part-bytes p h))
+plain-ungrouped : (p : Part) → TextPlain p → ungrouped (plainPart p) ≡ plainPart p
+plain-ungrouped p h = ungrouped-same (plainPart p) (printable-carries (plainPart p) (part-bytes p h))
 
-part-bare : (p : Part) (s : List ℕ) → TextPlain p → IsPart p s → bare s ≡ plainPart p
-part-bare (text t) s q h = ap bare h ∙ plain-bare (text t) q
-part-bare (rule r) s q h = ap bare h ∙ plain-bare (rule r) q
-part-bare (number n) s q h = numeral-bare n s h
-part-bare (edge z) s q h = signed-bare z s h
-part-bare (date d) s q h = ap bare (h .spelling) ∙ plain-bare (date d) q
+part-ungrouped : (p : Part) (s : List ℕ) → TextPlain p → IsPart p s → ungrouped s ≡ plainPart p
+part-ungrouped (text t) s q h = ap ungrouped h ∙ plain-ungrouped (text t) q
+part-ungrouped (rule r) s q h = ap ungrouped h ∙ plain-ungrouped (rule r) q
+part-ungrouped (number n) s q h = numeral-ungrouped n s h
+part-ungrouped (edge z) s q h = signed-ungrouped z s h
+part-ungrouped (date d) s q h = ap ungrouped (h .spelling) ∙ plain-ungrouped (date d) q
 
-parts-bare : (ps : List Part) (line : List ℕ) → TextsPlain ps → Spells ps line → bare line ≡ plainParts ps
-unfolding plainParts bare
-parts-bare [] line q h = ap bare h
-parts-bare (p ∷ ps) line q (s, rest, this, whole, others) =
-    ap bare whole
-    ∙ bare-append s rest
-    ∙ ap (λ (x : List ℕ). x ++ bare rest) (part-bare p s (q .0) this)
-    ∙ ap (λ (x : List ℕ). plainPart p ++ x) (parts-bare ps rest (q .1) others)
+parts-ungrouped : (ps : List Part) (line : List ℕ) → TextsPlain ps → Spells ps line → ungrouped line ≡ plainParts ps
+unfolding plainParts ungrouped
+parts-ungrouped [] line q h = ap ungrouped h
+parts-ungrouped (p ∷ ps) line q (s, rest, this, whole, others) =
+    ap ungrouped whole
+    ∙ ungrouped-append s rest
+    ∙ ap (λ (x : List ℕ). x ++ ungrouped rest) (part-ungrouped p s (q .0) this)
+    ∙ ap (λ (x : List ℕ). plainPart p ++ x) (parts-ungrouped ps rest (q .1) others)
 
-pub spelling-plain : (f : Form) (line : List ℕ) → IsSpelling f line → bare line ≡ plainSpelling f
+pub spelling-plain : (f : Form) (line : List ℕ) → IsSpelling f line → ungrouped line ≡ plainSpelling f
 unfolding plainSpelling
-spelling-plain f line h = parts-bare (parts f) line (form-texts f) h
+spelling-plain f line h = parts-ungrouped (parts f) line (form-texts f) h
 
 -- ---- the plain spelling is one, where every number has a numeral
 

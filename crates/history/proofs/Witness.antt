@@ -5,7 +5,7 @@ use lib.IntN.{pos}
 use lib.Signed.{leZ-yes}
 use Rattle.bits.specs.Below.{countBelow, updated}
 use Rattle.text.specs.Words.{startsWith, wordAt}
-use Rattle.numeral.specs.Reading.{run, valueFrom, wellFormed, numberIn, numberFrom, numberAt, plain, negated, signedFrom, signedAt}
+use Rattle.numeral.specs.Reading.{run, valueFrom, wellFormed, numberIn, numberFrom, numberAt, unsigned, negated, signedFrom, signedAt}
 use Rattle.moment.specs.Moment.{inRange, largerOf, smallerOf}
 use Rattle.moment.specs.Intervals.{shareOne, edgesWithin, bothInRange}
 use Rattle.rules.specs.Rules.{widened, bracket, conflicting, narrowed, outward, noWider, adopted}
@@ -20,10 +20,10 @@ use Rattle.history.specs.Course.{noCourse, coursesAfter, eventOf}
 use Rattle.history.specs.Witness.{keptRun, allRun}
 
 pub counted : let l = logAfter logStart allRun in (l .taken ≡ 1) × (l .kept ≡ 1) × (l .state .conflicts ≡ 1) × (l .dropped ≡ 1) × (l .state .requests ≡ 4)
-unfolding startsWith wordAt run valueFrom wellFormed numberIn numberFrom numberAt plain negated signedFrom signedAt inRange largerOf smallerOf shareOne boardWithin claimWithin ticksWithin tagWithin edgesWithin limited ruleAt endAt readParts parseAs parse shapedFrom readingOf widened bracket conflicting narrowed outward noWider adopted bothInRange judgedBy judged leaves countBelow first ownCauses replyBracket replyVerdict keeperCauses causes refusal updated logStart logStarted stateWith logAsked logEnded logReplied logAccepted accepting logged logAfter eventOf
+unfolding startsWith wordAt run valueFrom wellFormed numberIn numberFrom numberAt unsigned negated signedFrom signedAt inRange largerOf smallerOf shareOne boardWithin claimWithin ticksWithin tagWithin edgesWithin limited ruleAt endAt readParts parseAs parse shapedFrom readingOf widened bracket conflicting narrowed outward noWider adopted bothInRange judgedBy judged leaves countBelow first ownCauses replyBracket replyVerdict keeperCauses causes refusal updated logStart logStarted stateWith logAsked logEnded logReplied logAccepted accepting logged logAfter eventOf
 counted = (refl, refl, refl, refl, refl)
 
 -- 60 lies from 0 through 100 and in the bracket 50 through 150 of the taken reply, and not in that of the kept one
 pub kept-stays : coursesAfter logStart noCourse keptRun (pos 60)
-unfolding startsWith wordAt run valueFrom wellFormed numberIn numberFrom numberAt plain negated signedFrom signedAt inRange largerOf smallerOf shareOne boardWithin claimWithin ticksWithin tagWithin edgesWithin limited ruleAt endAt readParts parseAs parse shapedFrom readingOf widened bracket conflicting narrowed outward noWider adopted bothInRange judgedBy judged leaves countBelow first ownCauses replyBracket replyVerdict keeperCauses causes refusal updated logStart logStarted stateWith logAsked logEnded logReplied logAccepted accepting logged logAfter eventOf
+unfolding startsWith wordAt run valueFrom wellFormed numberIn numberFrom numberAt unsigned negated signedFrom signedAt inRange largerOf smallerOf shareOne boardWithin claimWithin ticksWithin tagWithin edgesWithin limited ruleAt endAt readParts parseAs parse shapedFrom readingOf widened bracket conflicting narrowed outward noWider adopted bothInRange judgedBy judged leaves countBelow first ownCauses replyBracket replyVerdict keeperCauses causes refusal updated logStart logStarted stateWith logAsked logEnded logReplied logAccepted accepting logged logAfter eventOf
 kept-stays = (record { from = leZ-yes tt; through = leZ-yes tt }, record { from = leZ-yes tt; through = leZ-yes tt })

@@ -2,23 +2,19 @@
 use mathlib.Core.Path.{_≡_, refl, sym, ap, _∙_}
 use mathlib.Core.Bool.{Bool, true, false, not, _&&_}
 use mathlib.Core.List.{List, [], _∷_}
-use Prim.Native.Nat.{ℕ, _+_, _-_, _<_, _≤_}
+use Prim.Native.Nat.{ℕ, suc, _+_, _-_, _<_, _≤_}
+use native.Mathlib.Nat.{lt-of-not-le}
 use native.Mathlib.Omega.{arith}
 use borrow.Author.Tests.{le-leb, lt-leb, eq-eqb, ne-eqb}
 use lib.Dec.{leb}
 use lib.ListN.{length, drop, getD}
-use Rattle.bits.specs.Choice.{choose}
 use Rattle.bits.proofs.Tests.{clash, by-test}
-use Rattle.numeral.specs.Progress.{Progress, AllRead, UpToUnderscore}
+use Rattle.numeral.specs.Progress.{Progress, Ended, GoesOn}
 use Rattle.numeral.specs.Reading.{numeralEnds, run, valueFrom, wellFormed, firstGroup, atUnderscore, numberIn, groupsFrom, numberFrom, numberAt}
 use Rattle.numeral.specs.declared.read.Number.the-variants as N
-use Rattle.numeral.proofs.Reading.{run-none, run-underscore, run-some, ends-no-underscore, run-head}
+use Rattle.numeral.proofs.Reading.{false-and, run-none, run-underscore, run-some, ends-no-underscore, run-head}
 
 -- ---- the answer, by the length of the run and its first byte
-
-false-and : (t : Bool) → (t && false) ≡ false
-false-and true = refl
-false-and false = refl
 
 pub formed-not-empty : (r : List ℕ) → length r ≡ 0 → wellFormed r ≡ false
 unfolding wellFormed
@@ -122,74 +118,80 @@ module _ {line : List ℕ} {at value next : ℕ} (p : Progress line at value nex
     place-is : at + length (run (drop at line)) ≡ next
     place-is = rw long-is here
 
--- The digits up to a place are read, and they are all of the run or 19.
-module _ {line : List ℕ} {at value next : ℕ} (read : AllRead line at value next) where
-  long : length (run (drop at line)) ≡ (next - at) + length (run (drop next line))
-  long = longer (read .progress)
-
-  pub absent-zero : 1 < next - at → getD line at 0 ≡ 48 → numberAt line at ≡ N.Absent
-  absent-zero h z =
-      let first : getD (run (drop at line)) 0 0 ≡ 48 = run-head line at (omega (arith, long)) ∙ z in
-      absent-both line at (λ m. formed-not-zero _ (omega (arith, long)) first) (first-group-zero _ first)
-
-  -- a twentieth digit, or a `_` after nineteen
-  pub absent-long : next - at ≡ 19 → numeralEnds (drop next line) ≡ false → numberAt line at ≡ N.Absent
-  absent-long h e = absent-both line at (λ m. formed-not-long _ (more m)) (first-group-long _ (omega (arith, long)))
-    where
-      stops : atUnderscore (drop (at + length (run (drop at line))) line) ≡ false → atUnderscore (drop next line) ≡ true → ⊥
-      stops m t = clash t (rw (place-is (read .progress) (run-underscore (drop next line) t)) at m)
-
-      more : atUnderscore (drop (at + length (run (drop at line))) line) ≡ false → 19 < length (run (drop at line))
-      more m = by-test (atUnderscore (drop next line)) (λ t. absurd (stops m t)) (λ t. omega (arith, long, run-some (drop next line) e t))
-
-  -- the numeral ends at the place
-  module _ (ends : numeralEnds (drop next line) ≡ true) where
-    stopped : run (drop next line) ≡ []
-    stopped = run-none (drop next line) ends
-
-    plain-here : numberAt line at ≡ numberIn (run (drop at line)) at
-    plain-here = plain-at line at (rw (place-is (read .progress) stopped) (ends-no-underscore (drop next line) ends))
-
-    number : wellFormed (run (drop at line)) ≡ true → numberAt line at ≡ N.Of value next
-    unfolding numberIn
-    number e = plain-here ∙ rw (e, value-is (read .progress) stopped, place-is (read .progress) stopped)
-
-    pub number-more : 1 < next - at → (getD line at 0 ≡ 48 → ⊥) → numberAt line at ≡ N.Of value next
-    number-more h z =
-        let count = long-is (read .progress) stopped in
-        number (formed-more _ (omega (arith, count)) (omega (arith, count)) (λ e. z (sym (run-head line at (omega (arith, count))) ∙ e)))
-
-  pub number-one : next - at ≡ 1 → numberAt line at ≡ N.Of value next
-  number-one h =
-      let ends = read .last (omega arith) in
-      number ends (formed-one _ (long-is (read .progress) (stopped ends) ∙ h))
-
-  pub absent-none : next - at ≡ 0 → numberAt line at ≡ N.Absent
-  absent-none h =
-      let ends = read .last (omega arith) in
-      plain-here ends ∙ absent-in line at (formed-not-empty _ (long-is (read .progress) (stopped ends) ∙ h))
-
--- The digits up to a place are read, and a `_` follows them.
-module _ {line : List ℕ} {at value next : ℕ} (read : UpToUnderscore line at value next) where
+-- The digits up to a place are read, and the numeral ends there.
+module _ {line : List ℕ} {at value next : ℕ} (read : Ended line at value next) where
   over : run (drop next line) ≡ []
-  over = run-underscore (drop next line) (read .follows)
+  over = run-none (drop next line) (read .ends)
 
   count : length (run (drop at line)) ≡ next - at
   count = long-is (read .progress) over
 
+  most : next - at ≤ 19
+  most = omega (arith, read .progress .within)
+
+  plain-here : numberAt line at ≡ numberIn (run (drop at line)) at
+  plain-here = plain-at line at (rw (place-is (read .progress) over) (ends-no-underscore (drop next line) (read .ends)))
+
+  number : wellFormed (run (drop at line)) ≡ true → numberAt line at ≡ N.Of value next
+  unfolding numberIn
+  number e = plain-here ∙ rw (e, value-is (read .progress) over, place-is (read .progress) over)
+
+  pub absent-none : next - at ≡ 0 → numberAt line at ≡ N.Absent
+  absent-none h = plain-here ∙ absent-in line at (formed-not-empty _ (count ∙ h))
+
+  pub absent-zero : 1 < next - at → getD line at 0 ≡ 48 → numberAt line at ≡ N.Absent
+  absent-zero h z = plain-here ∙ absent-in line at (formed-not-zero _ (omega (arith, count)) (run-head line at (omega (arith, count)) ∙ z))
+
+  pub number-one : next - at ≡ 1 → numberAt line at ≡ N.Of value next
+  number-one h = number (formed-one _ (count ∙ h))
+
+  pub number-more : 1 < next - at → (getD line at 0 ≡ 48 → ⊥) → numberAt line at ≡ N.Of value next
+  number-more h z =
+      number (formed-more _ (omega (arith, count)) (omega (arith, count, most)) (λ e. z (sym (run-head line at (omega (arith, count))) ∙ e)))
+
+-- The digits up to a place are read, and a `_` follows them.
+module _ {line : List ℕ} {at value next : ℕ} (p : Progress line at value next) (follows : atUnderscore (drop next line) ≡ true) where
+  gone : run (drop next line) ≡ []
+  gone = run-underscore (drop next line) follows
+
+  long : length (run (drop at line)) ≡ next - at
+  long = long-is p gone
+
   underscore-after : atUnderscore (drop (at + length (run (drop at line))) line) ≡ true
-  underscore-after = rw (place-is (read .progress) over) (read .follows)
+  underscore-after = rw (place-is p gone) follows
 
+  not-first : firstGroup (run (drop at line)) ≡ false → numberAt line at ≡ N.Absent
+  not-first e = absent-first line at underscore-after e
+
+-- Likewise, or a digit does after 19.
+module _ {line : List ℕ} {at value next : ℕ} (read : GoesOn line at value next) where
   pub first-none : next - at ≡ 0 → numberAt line at ≡ N.Absent
-  first-none h = absent-first line at underscore-after (first-group-none _ (count ∙ h))
+  first-none h =
+      let u = read .with-underscore (omega (arith, read .progress .from)) in
+      not-first (read .progress) u (first-group-none _ (long (read .progress) u ∙ h))
 
+  -- a twentieth digit, or a `_` after more than three
   pub first-long : 3 < next - at → numberAt line at ≡ N.Absent
-  first-long h = absent-first line at underscore-after (first-group-long _ (omega (arith, count)))
+  first-long h = by-test (atUnderscore (drop next line)) with-it without-it
+    where
+      with-it : atUnderscore (drop next line) ≡ true → numberAt line at ≡ N.Absent
+      with-it u = not-first (read .progress) u (first-group-long _ (omega (arith, long (read .progress) u)))
 
-  pub first-zero : 0 < next - at → getD line at 0 ≡ 48 → numberAt line at ≡ N.Absent
-  first-zero h z = absent-first line at underscore-after (first-group-zero _ (run-head line at (omega (arith, count)) ∙ z))
+      without-it : atUnderscore (drop next line) ≡ false → numberAt line at ≡ N.Absent
+      without-it u =
+          let all : at + 19 ≤ next = omega (arith, lt-of-not-le (λ (l : suc next ≤ at + 19). clash (read .with-underscore l) u)) in
+          let more : 19 < length (run (drop at line)) = omega (arith, longer (read .progress), run-some (drop next line) (read .on) u, read .progress .from) in
+          absent-both line at (λ m. formed-not-long _ more) (first-group-long _ (omega (arith, more)))
+
+  pub first-zero : 0 < next - at → next - at ≤ 3 → getD line at 0 ≡ 48 → numberAt line at ≡ N.Absent
+  first-zero h k z =
+      let u = read .with-underscore (omega (arith, read .progress .from)) in
+      not-first (read .progress) u (first-group-zero _ (run-head line at (omega (arith, long (read .progress) u)) ∙ z))
 
   pub first-some : 0 < next - at → next - at ≤ 3 → (getD line at 0 ≡ 48 → ⊥) → numberAt line at ≡ groupsFrom value (next - at) next (drop next line)
   first-some h k z =
-      first-at line at underscore-after (first-group-some _ (omega (arith, count)) (omega (arith, count)) (λ e. z (sym (run-head line at (omega (arith, count))) ∙ e)))
-      ∙ rw (place-is (read .progress) over, value-is (read .progress) over, count)
+      let u = read .with-underscore (omega (arith, read .progress .from)) in
+      let many = long (read .progress) u in
+      let other = gone (read .progress) u in
+      first-at line at (underscore-after (read .progress) u) (first-group-some _ (omega (arith, many)) (omega (arith, many)) (λ e. z (sym (run-head line at (omega (arith, many))) ∙ e)))
+      ∙ rw (place-is (read .progress) other, value-is (read .progress) other, many)

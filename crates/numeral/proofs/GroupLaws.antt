@@ -1,8 +1,8 @@
 -- Laws of groups: what is left without the `_`, and where `grouped` sets them.
 use mathlib.Core.Path.{_≡_, refl, sym, ap, _∙_, subst}
 use mathlib.Core.Bool.{Bool, true, false}
-use mathlib.Core.List.{List, [], _∷_, _++_, append-nil}
-use Prim.Native.Nat.{ℕ, zero, suc, _+_, _-_, _*_, _/_, _%_, _<_, _≤_}
+use mathlib.Core.List.{List, [], _∷_, _++_}
+use Prim.Native.Nat.{ℕ, zero, suc, _+_, _-_, _*_, _/_, _%_, _≤_}
 use native.Mathlib.Omega.{arith}
 use borrow.Author.Tests.{eq-eqb, ne-eqb, eqb-true, eqb-false}
 use lib.Dec.{eqb}
@@ -10,45 +10,45 @@ use lib.ListN.{length, take, drop, length-append, length-drop, take-append-drop}
 use lib.Seq.{length-take-le}
 use Rattle.bits.specs.Choice.{choose}
 use Rattle.bits.proofs.Tests.{neither}
-use Rattle.numeral.specs.Groups.{underscore, grouped, bare, carries}
+use Rattle.numeral.specs.Groups.{underscore, grouped, ungrouped, carriesUnderscore}
 use Rattle.numeral.specs.Numerals.{AllDigits, none, more, Groups, end, group, InGroups}
 
 -- ---- bytes without their `_`
 
-pub bare-append : (s t : List ℕ) → bare (s ++ t) ≡ bare s ++ bare t
-unfolding bare
-bare-append [] t = refl
-bare-append (b ∷ s) t = go (eqb b underscore) (bare-append s t)
+pub ungrouped-append : (s t : List ℕ) → ungrouped (s ++ t) ≡ ungrouped s ++ ungrouped t
+unfolding ungrouped
+ungrouped-append [] t = refl
+ungrouped-append (b ∷ s) t = go (eqb b underscore) (ungrouped-append s t)
   where
-    go : (u : Bool) → bare (s ++ t) ≡ bare s ++ bare t → choose u (λ _. bare (s ++ t)) (λ _. b ∷ bare (s ++ t)) ≡ choose u (λ _. bare s) (λ _. b ∷ bare s) ++ bare t
+    go : (u : Bool) → ungrouped (s ++ t) ≡ ungrouped s ++ ungrouped t → choose u (λ _. ungrouped (s ++ t)) (λ _. b ∷ ungrouped (s ++ t)) ≡ choose u (λ _. ungrouped s) (λ _. b ∷ ungrouped s) ++ ungrouped t
     go true e = e
     go false e = ap (λ (x : List ℕ). b ∷ x) e
 
 -- another byte stays
-pub bare-other : (b : ℕ) (s : List ℕ) → (b ≡ underscore → ⊥) → bare (b ∷ s) ≡ b ∷ bare s
-unfolding bare
-bare-other b s h = rw (ne-eqb b underscore h)
+pub ungrouped-other : (b : ℕ) (s : List ℕ) → (b ≡ underscore → ⊥) → ungrouped (b ∷ s) ≡ b ∷ ungrouped s
+unfolding ungrouped
+ungrouped-other b s h = rw (ne-eqb b underscore h)
 
-pub bare-mark : (s : List ℕ) → bare (underscore ∷ s) ≡ bare s
-unfolding bare
-bare-mark s = refl
+pub ungrouped-underscore : (s : List ℕ) → ungrouped (underscore ∷ s) ≡ ungrouped s
+unfolding ungrouped
+ungrouped-underscore s = refl
 
-pub bare-digits : {s : List ℕ} → AllDigits s → bare s ≡ s
-unfolding bare
-bare-digits none = refl
-bare-digits (more {b = b} {s = s} low high r) = bare-other b s (λ e. omega arith) ∙ ap (λ (x : List ℕ). b ∷ x) (bare-digits r)
+pub ungrouped-digits : {s : List ℕ} → AllDigits s → ungrouped s ≡ s
+unfolding ungrouped
+ungrouped-digits none = refl
+ungrouped-digits (more {b = b} {s = s} low high r) = ungrouped-other b s (λ e. omega arith) ∙ ap (λ (x : List ℕ). b ∷ x) (ungrouped-digits r)
 
-pub bare-group : {a b c : ℕ} (s : List ℕ) → AllDigits (a ∷ b ∷ c ∷ []) → bare (underscore ∷ a ∷ b ∷ c ∷ s) ≡ a ∷ b ∷ c ∷ bare s
-bare-group {a} {b} {c} s (more p q (more u v (more x y none))) =
-    bare-mark (a ∷ b ∷ c ∷ s)
-    ∙ bare-other a (b ∷ c ∷ s) (λ e. omega arith)
-    ∙ ap (λ (t : List ℕ). a ∷ t) (bare-other b (c ∷ s) (λ e. omega arith) ∙ ap (λ (t : List ℕ). b ∷ t) (bare-other c s (λ e. omega arith)))
+pub ungrouped-group : {a b c : ℕ} (s : List ℕ) → AllDigits (a ∷ b ∷ c ∷ []) → ungrouped (underscore ∷ a ∷ b ∷ c ∷ s) ≡ a ∷ b ∷ c ∷ ungrouped s
+ungrouped-group {a} {b} {c} s (more p q (more u v (more x y none))) =
+    ungrouped-underscore (a ∷ b ∷ c ∷ s)
+    ∙ ungrouped-other a (b ∷ c ∷ s) (λ e. omega arith)
+    ∙ ap (λ (t : List ℕ). a ∷ t) (ungrouped-other b (c ∷ s) (λ e. omega arith) ∙ ap (λ (t : List ℕ). b ∷ t) (ungrouped-other c s (λ e. omega arith)))
 
 -- bytes that carry none stay as they are
-pub bare-same : (s : List ℕ) → carries s ≡ false → bare s ≡ s
-unfolding bare carries
-bare-same [] e = refl
-bare-same (b ∷ s) e = let (this, others) = neither (eqb b underscore) (carries s) e in rw this (ap (λ (x : List ℕ). b ∷ x) (bare-same s others))
+pub ungrouped-same : (s : List ℕ) → carriesUnderscore s ≡ false → ungrouped s ≡ s
+unfolding ungrouped carriesUnderscore
+ungrouped-same [] e = refl
+ungrouped-same (b ∷ s) e = let (this, others) = neither (eqb b underscore) (carriesUnderscore s) e in rw this (ap (λ (x : List ℕ). b ∷ x) (ungrouped-same s others))
 
 -- ---- digits in groups
 
@@ -81,42 +81,42 @@ grouped-more (b ∷ c ∷ s) t h e =
     go false r = ap (λ (x : List ℕ). b ∷ x) r
 
 -- groups have three digits each
-groups-length : {g : List ℕ} → Groups g → length (bare g) % 3 ≡ 0
-unfolding bare
+groups-length : {g : List ℕ} → Groups g → length (ungrouped g) % 3 ≡ 0
+unfolding ungrouped
 groups-length end = refl
-groups-length (group {s = s} a g) = rw (bare-group s a) (omega (arith, groups-length g))
+groups-length (group {s = s} a g) = rw (ungrouped-group s a) (omega (arith, groups-length g))
 
-groups-behind : {g : List ℕ} → Groups g → behind (bare g) ≡ g
-unfolding bare
+groups-behind : {g : List ℕ} → Groups g → behind (ungrouped g) ≡ g
+unfolding ungrouped
 groups-behind end = refl
 groups-behind (group {a} {b} {c} {s} d g) =
-    ap behind (bare-group s d)
+    ap behind (ungrouped-group s d)
     ∙ ap (λ (x : List ℕ). underscore ∷ x)
-    (grouped-more (a ∷ b ∷ c ∷ []) (bare s) (omega arith) (groups-length g)
-    ∙ ap (λ (x : List ℕ). x ++ behind (bare s)) (grouped-short (a ∷ b ∷ c ∷ []) (omega arith))
+    (grouped-more (a ∷ b ∷ c ∷ []) (ungrouped s) (omega arith) (groups-length g)
+    ∙ ap (λ (x : List ℕ). x ++ behind (ungrouped s)) (grouped-short (a ∷ b ∷ c ∷ []) (omega arith))
     ∙ ap (λ (x : List ℕ). a ∷ b ∷ c ∷ x) (groups-behind g))
 
 -- one to three digits, and groups after them, are their digits grouped
-pub grouped-is : (first rest : List ℕ) → 1 ≤ length first → length first ≤ 3 → Groups rest → grouped (first ++ bare rest) ≡ first ++ rest
+pub grouped-is : (first rest : List ℕ) → 1 ≤ length first → length first ≤ 3 → Groups rest → grouped (first ++ ungrouped rest) ≡ first ++ rest
 grouped-is first rest some most g =
-    grouped-more first (bare rest) some (groups-length g)
-    ∙ ap (λ (x : List ℕ). x ++ behind (bare rest)) (grouped-short first most)
+    grouped-more first (ungrouped rest) some (groups-length g)
+    ∙ ap (λ (x : List ℕ). x ++ behind (ungrouped rest)) (grouped-short first most)
     ∙ ap (λ (x : List ℕ). first ++ x) (groups-behind g)
 
 pub all-append : {s t : List ℕ} → AllDigits s → AllDigits t → AllDigits (s ++ t)
 all-append none u = u
 all-append (more p q r) u = more p q (all-append r u)
 
-pub groups-digits : {g : List ℕ} → Groups g → AllDigits (bare g)
-unfolding bare
+pub groups-digits : {g : List ℕ} → Groups g → AllDigits (ungrouped g)
+unfolding ungrouped
 groups-digits end = none
-groups-digits (group {s = s} d g) = rw (bare-group s d) (all-append d (groups-digits g))
+groups-digits (group {s = s} d g) = rw (ungrouped-group s d) (all-append d (groups-digits g))
 
 -- bytes in groups are their digits grouped
-pub in-groups-are : {s : List ℕ} → InGroups s → grouped (bare s) ≡ s
+pub in-groups-are : {s : List ℕ} → InGroups s → grouped (ungrouped s) ≡ s
 in-groups-are g =
-    ap (λ (x : List ℕ). grouped (bare x)) (g .whole)
-    ∙ ap grouped (bare-append (g .first) (g .rest) ∙ ap (λ (x : List ℕ). x ++ bare (g .rest)) (bare-digits (g .all)))
+    ap (λ (x : List ℕ). grouped (ungrouped x)) (g .whole)
+    ∙ ap grouped (ungrouped-append (g .first) (g .rest) ∙ ap (λ (x : List ℕ). x ++ ungrouped (g .rest)) (ungrouped-digits (g .all)))
     ∙ grouped-is (g .first) (g .rest) (g .some) (g .most) (g .groups)
     ∙ sym (g .whole)
 
@@ -132,8 +132,8 @@ all-drop zero r = r
 all-drop (suc k) none = none
 all-drop (suc k) (more p q r) = all-drop k r
 
-threes : (k : ℕ) (s : List ℕ) → AllDigits s → length s ≡ k * 3 → (g : List ℕ) × Groups g × (bare g ≡ s)
-unfolding bare
+threes : (k : ℕ) (s : List ℕ) → AllDigits s → length s ≡ k * 3 → (g : List ℕ) × Groups g × (ungrouped g ≡ s)
+unfolding ungrouped
 threes zero [] r e = ([], end, refl)
 threes zero (a ∷ s) r e = absurd (omega arith)
 threes (suc k) [] r e = absurd (omega arith)
@@ -142,13 +142,13 @@ threes (suc k) (a ∷ b ∷ []) r e = absurd (omega arith)
 threes (suc k) (a ∷ b ∷ c ∷ s) (more p q (more u v (more x y r))) e =
     let three : AllDigits (a ∷ b ∷ c ∷ []) = more p q (more u v (more x y none)) in
     let (g, groups, same) = threes k s r (omega arith) in
-    (underscore ∷ a ∷ b ∷ c ∷ g, group three groups, bare-group g three ∙ ap (λ (t : List ℕ). a ∷ b ∷ c ∷ t) same)
+    (underscore ∷ a ∷ b ∷ c ∷ g, group three groups, ungrouped-group g three ∙ ap (λ (t : List ℕ). a ∷ b ∷ c ∷ t) same)
 
 -- digits are those of a first group and of groups after it, and grouped they are the two
 pub record Cut (s : List ℕ) : Type 0 where
   pub first : List ℕ
   pub rest : List ℕ
-  pub digits : s ≡ first ++ bare rest
+  pub digits : s ≡ first ++ ungrouped rest
   pub spelt : grouped s ≡ first ++ rest
   pub all : AllDigits first
   pub some : 1 ≤ length first
@@ -181,15 +181,15 @@ cut s r h = at-place ((length s - 1) / 3) refl
         subst Cut (take-append-drop k s) (cut-after m (all-take k r) (all-drop k r) (omega (arith, long, e)) (omega (arith, long, e)) behind-it)
 
 -- digits in groups, without their `_`, are the digits
-pub bare-grouped : (s : List ℕ) → AllDigits s → 1 ≤ length s → bare (grouped s) ≡ s
-bare-grouped s r h =
+pub ungrouped-grouped : (s : List ℕ) → AllDigits s → 1 ≤ length s → ungrouped (grouped s) ≡ s
+ungrouped-grouped s r h =
     let c = cut s r h in
-    ap bare (c .spelt)
-    ∙ bare-append (c .first) (c .rest)
-    ∙ ap (λ (x : List ℕ). x ++ bare (c .rest)) (bare-digits (c .all))
+    ap ungrouped (c .spelt)
+    ∙ ungrouped-append (c .first) (c .rest)
+    ∙ ap (λ (x : List ℕ). x ++ ungrouped (c .rest)) (ungrouped-digits (c .all))
     ∙ sym (c .digits)
 
--- a third of the digits' number, rounded down, is how many `_` they carry at most
+-- n digits in groups carry (n - 1) / 3 `_`, rounded down
 pub grouped-length : (s : List ℕ) → 1 ≤ length s → length (grouped s) ≡ length s + (length s - 1) / 3
 unfolding grouped
 grouped-length [] h = absurd (omega arith)

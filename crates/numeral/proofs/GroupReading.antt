@@ -6,21 +6,21 @@ use mathlib.Core.List.{List, [], _∷_, _++_}
 use Prim.Native.Nat.{ℕ, suc, _+_, _-_, _*_, _^_, _<_, _≤_}
 use native.Mathlib.Nat.{pow-le-pow-right, lt-of-lt-of-le}
 use native.Mathlib.Omega.{arith}
-use borrow.Author.Tests.{le-leb, lt-leb, leb-true, eq-eqb, ne-eqb, eqb-true}
+use borrow.Author.Tests.{le-leb, lt-leb, leb-true, ne-eqb, eqb-true}
 use lib.Dec.{leb, eqb}
 use lib.ListN.{length, drop, getD, length-drop}
 use lib.Pow.{pow-add}
 use lib.Seq.{drop-cons, drop-drop}
 use Rattle.bits.specs.Choice.{choose}
 use Rattle.bits.proofs.Tests.{both}
-use Rattle.numeral.specs.Groups.{underscore, bare}
+use Rattle.numeral.specs.Groups.{underscore, ungrouped}
 use Rattle.numeral.specs.Numerals.{AllDigits, none, more, Groups, end, group}
 use Rattle.numeral.specs.Progress.{TellsDigit, Counted, groupNumber}
 use Rattle.numeral.specs.Reading.{isDigit, isGroup, atUnderscore, numeralEnds, valueFrom, endedAt, groupsFrom}
 use Rattle.numeral.specs.declared.read.Number.{Number}
 use Rattle.numeral.specs.declared.read.Number.the-variants as N
-use Rattle.numeral.proofs.GroupLaws.{bare-group}
-use Rattle.numeral.proofs.Reading.{is-digit, digit-bounds, ends-no-underscore}
+use Rattle.numeral.proofs.GroupLaws.{ungrouped-group}
+use Rattle.numeral.proofs.Reading.{false-and, is-digit, digit-bounds, ends-no-underscore}
 
 -- where no group stands, the numeral ends or is none
 no-group : (v k at : ℕ) (s : List ℕ) → atUnderscore s ≡ false → groupsFrom v k at s ≡ endedAt v at s
@@ -29,11 +29,7 @@ no-group v k at [] m = refl
 no-group v k at (u ∷ []) m = refl
 no-group v k at (u ∷ a ∷ []) m = refl
 no-group v k at (u ∷ a ∷ b ∷ []) m = refl
-no-group v k at (u ∷ a ∷ b ∷ c ∷ s) m = rw m (go (leb k 16))
-  where
-    go : (t : Bool) → choose (t && false) (λ _. groupsFrom (valueFrom v (a ∷ b ∷ c ∷ [])) (k + 3) (at + 4) s) (λ _. endedAt v at (u ∷ a ∷ b ∷ c ∷ s)) ≡ endedAt v at (u ∷ a ∷ b ∷ c ∷ s)
-    go true = refl
-    go false = refl
+no-group v k at (u ∷ a ∷ b ∷ c ∷ s) m = rw (m, false-and (leb k 16))
 
 is-group : {a b c : ℕ} → AllDigits (a ∷ b ∷ c ∷ []) → isGroup underscore a b c ≡ true
 is-group {a} {b} {c} (more p q (more u v (more x y none))) = rw (is-digit a p q, is-digit b u v, is-digit c x y)
@@ -48,14 +44,14 @@ answer : {m n i j : ℕ} → m ≡ n → i ≡ j → N.Of m i ≡ N.Of n j
 answer p q = rw (p, q)
 
 -- groups that stand at a place, and do not go on, are read
-pub groups-read : {g : List ℕ} → Groups g → (v k at : ℕ) (rest : List ℕ) → numeralEnds rest ≡ true → k + length (bare g) ≤ 19
-    → groupsFrom v k at (g ++ rest) ≡ N.Of (valueFrom v (bare g)) (at + length g)
-unfolding endedAt bare valueFrom
+pub groups-read : {g : List ℕ} → Groups g → (v k at : ℕ) (rest : List ℕ) → numeralEnds rest ≡ true → k + length (ungrouped g) ≤ 19
+    → groupsFrom v k at (g ++ rest) ≡ N.Of (valueFrom v (ungrouped g)) (at + length g)
+unfolding endedAt ungrouped valueFrom
 groups-read end v k at rest e h =
     let place : at + 0 ≡ at = omega arith in
     no-group v k at rest (ends-no-underscore rest e) ∙ rw (e, place)
 groups-read (group {a} {b} {c} {s} d g) v k at rest e h =
-    let digits = bare-group s d in
+    let digits = ungrouped-group s d in
     let long = ap length digits in
     group-next v k at underscore a b c (s ++ rest) (omega (arith, long)) (is-group d)
     ∙ groups-read g (valueFrom v (a ∷ b ∷ c ∷ [])) (k + 3) (at + 4) rest e (omega (arith, long))
@@ -67,13 +63,13 @@ pub record GroupsRead (value count at : ℕ) (s : List ℕ) (n next : ℕ) : Typ
   pub rest : List ℕ
   pub groups : Groups bytes
   pub whole : s ≡ bytes ++ rest
-  pub number : n ≡ valueFrom value (bare bytes)
+  pub number : n ≡ valueFrom value (ungrouped bytes)
   pub place : next ≡ at + length bytes
-  pub most : count + length (bare bytes) ≤ 19
+  pub most : count + length (ungrouped bytes) ≤ 19
   pub ends : numeralEnds rest ≡ true
 
 ended-back : (v k at : ℕ) (s : List ℕ) (n next : ℕ) → k ≤ 19 → endedAt v at s ≡ N.Of n next → GroupsRead v k at s n next
-unfolding endedAt bare valueFrom
+unfolding endedAt ungrouped valueFrom
 ended-back v k at s n next h e = go (numeralEnds s) refl e
   where
     go : (t : Bool) → numeralEnds s ≡ t → choose t (λ _. N.Of v at) (λ _. N.Absent) ≡ N.Of n next → GroupsRead v k at s n next
@@ -107,7 +103,7 @@ group-back : (v k at u a b c : ℕ) (s : List ℕ) (n next : ℕ) → isGroup u 
 unfolding valueFrom
 group-back v k at u a b c s n next e r =
     let (mark, three) = group-digits u a b c e in
-    let digits : bare (underscore ∷ a ∷ b ∷ c ∷ r .bytes) ≡ a ∷ b ∷ c ∷ bare (r .bytes) = bare-group (r .bytes) three in
+    let digits : ungrouped (underscore ∷ a ∷ b ∷ c ∷ r .bytes) ≡ a ∷ b ∷ c ∷ ungrouped (r .bytes) = ungrouped-group (r .bytes) three in
     let all : u ∷ a ∷ b ∷ c ∷ s ≡ underscore ∷ a ∷ b ∷ c ∷ (r .bytes ++ r .rest) = rw mark (ap (λ (x : List ℕ). underscore ∷ a ∷ b ∷ c ∷ x) (r .whole)) in
     let long = ap length digits in
     record {
@@ -240,12 +236,7 @@ groups-over v k at (u ∷ a ∷ b ∷ c ∷ s) h = go (isGroup u a b c) refl h
         → choose (leb k 16 && t) (λ _. groupsFrom (valueFrom v (a ∷ b ∷ c ∷ [])) (k + 3) (at + 4) s) (λ _. endedAt v at (u ∷ a ∷ b ∷ c ∷ s))
         ≡ endedAt v at (u ∷ a ∷ b ∷ c ∷ s)
     go true e l = absurd (omega (arith, small-group a b c (group-digits u a b c e .1)))
-    go false e l = none-there (leb k 16)
-      where
-        none-there : (t : Bool) → choose (t && false) (λ _. groupsFrom (valueFrom v (a ∷ b ∷ c ∷ [])) (k + 3) (at + 4) s) (λ _. endedAt v at (u ∷ a ∷ b ∷ c ∷ s))
-            ≡ endedAt v at (u ∷ a ∷ b ∷ c ∷ s)
-        none-there true = refl
-        none-there false = refl
+    go false e l = rw (false-and (leb k 16))
 
 -- the answer where no group is read any more
 pub ended-here : (v at : ℕ) (s : List ℕ) → numeralEnds s ≡ true → endedAt v at s ≡ N.Of v at

@@ -1,5 +1,5 @@
--- Numerals and their readers. A numeral is what the sentences of the papers describe (`described`); where one stands and its digits do not go on,
--- it is read as its number (`numeral-read`); and what is read is a numeral of that number (`read-numeral`), whose digits do not go on
+-- Numerals and their readers. A numeral is what the sentences of the papers describe (`described`); where one stands and does not go on,
+-- it is read as its number (`numeral-read`); and what is read is a numeral of that number (`read-numeral`), that does not go on
 -- (`read-ends`).
 use mathlib.Core.Path.{_≡_, refl, sym, ap, _∙_, subst}
 use mathlib.Core.Bool.{Bool, true, false, not, _&&_}
@@ -8,21 +8,20 @@ use mathlib.Core.List.{List, [], _∷_, _++_, append-assoc, append-nil}
 use Prim.Native.Nat.{ℕ, zero, suc, _+_, _-_, _*_, _/_, _%_, _<_, _≤_}
 use native.Mathlib.Nat.{lt-of-not-le}
 use native.Mathlib.Omega.{arith}
-use borrow.Author.Tests.{ltb-true, ltb-false, leb-true, leb-false, le-leb, not-true, eqb-false, eqb-true}
+use borrow.Author.Tests.{ltb-true, ltb-false, leb-true, leb-false, not-true, eqb-false}
 use lib.Dec.{leb, ltb, eqb}
 use lib.ListN.{length, drop, getD, length-append, List·getD-append}
 use lib.Seq.{drop-drop}
-use Rattle.bits.proofs.Tests.{clash, by-test, both}
+use Rattle.bits.proofs.Tests.{both}
 use Rattle.text.specs.Words.{Stands}
 use Rattle.text.proofs.WordLaws.{rest-is}
 use Rattle.numeral.specs.Digits.{digits}
-use Rattle.numeral.specs.Groups.{underscore, grouped, bare}
+use Rattle.numeral.specs.Groups.{underscore, grouped, ungrouped}
 use Rattle.numeral.specs.Numerals.{Numeral, AllDigits, none, more, Plain, Groups, end, group, InGroups, Described}
 use Rattle.numeral.specs.Reading.{isDigit, atUnderscore, numeralEnds, run, valueFrom, wellFormed, firstGroup, groupsFrom, numberIn, numberFrom, numberAt}
-use Rattle.numeral.specs.declared.read.Number.{Number}
 use Rattle.numeral.specs.declared.read.Number.the-variants as N
 use Rattle.numeral.proofs.Digits.{digits-one, digits-more, digits-some}
-use Rattle.numeral.proofs.GroupLaws.{all-append, bare-digits, bare-group, bare-grouped, groups-digits, grouped-is, grouped-length, in-groups-are, Cut, cut}
+use Rattle.numeral.proofs.GroupLaws.{all-append, ungrouped-digits, ungrouped-group, ungrouped-grouped, groups-digits, grouped-is, grouped-length, in-groups-are, Cut, cut}
 use Rattle.numeral.proofs.Reading.{is-digit, digit-bounds, run-none, run-underscore, ends-no-underscore}
 use Rattle.numeral.proofs.GroupReading.{groups-read, groups-back}
 use Rattle.numeral.proofs.Answers.{formed-one, formed-more, formed-not-empty, formed-not-long, formed-not-zero, first-group-some}
@@ -58,10 +57,14 @@ digits-lead =
     (λ n h p. rw (digits-one n h) (λ e. omega arith))
     (λ n h r p. rw (digits-more n h, List·getD-append (digits (n / 10)) ((48 + n % 10) ∷ []) 0 0 (digits-some (n / 10))) (r (omega arith)))
 
+value-append : (v : ℕ) (s t : List ℕ) → valueFrom v (s ++ t) ≡ valueFrom (valueFrom v s) t
+unfolding valueFrom
+value-append v [] t = refl
+value-append v (b ∷ s) t = value-append (v * 10 + (b - 48)) s t
+
 value-last : (v : ℕ) (s : List ℕ) (b : ℕ) → valueFrom v (s ++ b ∷ []) ≡ valueFrom v s * 10 + (b - 48)
 unfolding valueFrom
-value-last v [] b = refl
-value-last v (c ∷ s) b = value-last (v * 10 + (c - 48)) s b
+value-last v s b = value-append v s (b ∷ [])
 
 -- the digits of a number spell it
 pub value-digits : (n : ℕ) → valueFrom 0 (digits n) ≡ n
@@ -130,16 +133,16 @@ digits-plain n h = record { all = digits-all n; some = digits-some n; most = h; 
     led (suc n) e = absurd (digits-lead (suc n) (omega arith) e)
 
 -- without its `_`, a numeral is the digits of its number
-pub numeral-bare : (n : ℕ) (s : List ℕ) → Numeral n s → bare s ≡ digits n
-numeral-bare n s m = go (m .spelling)
+pub numeral-ungrouped : (n : ℕ) (s : List ℕ) → Numeral n s → ungrouped s ≡ digits n
+numeral-ungrouped n s m = go (m .spelling)
   where
-    go : (s ≡ digits n) ⊎ (s ≡ grouped (digits n)) → bare s ≡ digits n
-    go (inl e) = ap bare e ∙ bare-digits (digits-all n)
-    go (inr e) = ap bare e ∙ bare-grouped (digits n) (digits-all n) (digits-some n)
+    go : (s ≡ digits n) ⊎ (s ≡ grouped (digits n)) → ungrouped s ≡ digits n
+    go (inl e) = ap ungrouped e ∙ ungrouped-digits (digits-all n)
+    go (inr e) = ap ungrouped e ∙ ungrouped-grouped (digits n) (digits-all n) (digits-some n)
 
 -- bytes are a numeral of one number at most
 pub one-number : (m n : ℕ) (s : List ℕ) → Numeral m s → Numeral n s → m ≡ n
-one-number m n s p q = digits-same m n (sym (numeral-bare m s p) ∙ numeral-bare n s q)
+one-number m n s p q = digits-same m n (sym (numeral-ungrouped m s p) ∙ numeral-ungrouped n s q)
 
 -- it has at most 25 bytes: 19 digits and six `_`
 pub numeral-most : (n : ℕ) (s : List ℕ) → Numeral n s → length s ≤ 25
@@ -160,17 +163,17 @@ pub described : (s : List ℕ) → Described s ↔ ((n : ℕ) × Numeral n s)
 described s = (to, from)
   where
     to : Described s → (n : ℕ) × Numeral n s
-    to d = (valueFrom 0 (bare s), record { spelling = spelt (d .carried); most = rw same (d .plain .most) })
+    to d = (valueFrom 0 (ungrouped s), record { spelling = spelt (d .carried); most = rw same (d .plain .most) })
       where
-        same : digits (valueFrom 0 (bare s)) ≡ bare s
-        same = plain-value (bare s) (d .plain)
+        same : digits (valueFrom 0 (ungrouped s)) ≡ ungrouped s
+        same = plain-value (ungrouped s) (d .plain)
 
-        spelt : AllDigits s ⊎ InGroups s → (s ≡ digits (valueFrom 0 (bare s))) ⊎ (s ≡ grouped (digits (valueFrom 0 (bare s))))
-        spelt (inl a) = inl (sym (bare-digits a) ∙ sym same)
+        spelt : AllDigits s ⊎ InGroups s → (s ≡ digits (valueFrom 0 (ungrouped s))) ⊎ (s ≡ grouped (digits (valueFrom 0 (ungrouped s))))
+        spelt (inl a) = inl (sym (ungrouped-digits a) ∙ sym same)
         spelt (inr g) = inr (sym (in-groups-are g) ∙ ap grouped (sym same))
 
     from : (n : ℕ) × Numeral n s → Described s
-    from (n, m) = record { plain = subst Plain (sym (numeral-bare n s m)) (digits-plain n (m .most)); carried = marks (m .spelling) }
+    from (n, m) = record { plain = subst Plain (sym (numeral-ungrouped n s m)) (digits-plain n (m .most)); carried = marks (m .spelling) }
       where
         marks : (s ≡ digits n) ⊎ (s ≡ grouped (digits n)) → AllDigits s ⊎ InGroups s
         marks (inl e) = inl (subst AllDigits (sym e) (digits-all n))
@@ -254,11 +257,6 @@ first-group-back r e =
     let (most, lead) = both (leb (length r) 3) (not (eqb (getD r 0 0) 48)) others in
     (leb-true 1 (length r) some, leb-true (length r) 3 most, eqb-false (getD r 0 0) 48 (not-true (eqb (getD r 0 0) 48) lead))
 
-value-append : (v : ℕ) (s t : List ℕ) → valueFrom v (s ++ t) ≡ valueFrom (valueFrom v s) t
-unfolding valueFrom
-value-append v [] t = refl
-value-append v (b ∷ s) t = value-append (v * 10 + (b - 48)) s t
-
 -- ---- a numeral is read
 
 module _ (line : List ℕ) (at n : ℕ) (rest : List ℕ) (small : length (digits n) ≤ 19) (ends : numeralEnds rest ≡ true) where
@@ -268,36 +266,36 @@ module _ (line : List ℕ) (at n : ℕ) (rest : List ℕ) (small : length (digit
       rw (e, run-all (digits-all n) rest (run-none rest ends), rest-is line at (digits n) rest e, ends-no-underscore rest ends, plain-formed (digits n) (digits-plain n small), value-digits n)
 
   -- a first group, and at least one more
-  in-groups-read : (first s : List ℕ) → AllDigits first → 1 ≤ length first → length first ≤ 3 → Groups s → digits n ≡ first ++ bare s → atUnderscore (s ++ rest) ≡ true → 1 ≤ length (bare s)
+  in-groups-read : (first s : List ℕ) → AllDigits first → 1 ≤ length first → length first ≤ 3 → Groups s → digits n ≡ first ++ ungrouped s → atUnderscore (s ++ rest) ≡ true → 1 ≤ length (ungrouped s)
       → drop at line ≡ first ++ (s ++ rest) → numberAt line at ≡ N.Of n (at + length (first ++ s))
   unfolding numberAt numberFrom
   in-groups-read first s all some most g spelt mark more-digits e =
-      let long : length (digits n) ≡ length first + length (bare s) = ap length spelt ∙ length-append first (bare s) in
+      let long : length (digits n) ≡ length first + length (ungrouped s) = ap length spelt ∙ length-append first (ungrouped s) in
       let lead : getD first 0 0 ≡ 48 → ⊥ = λ z. (
-      let single : length (digits n) ≡ 1 = digits-plain n small .lead (ap (λ (x : List ℕ). getD x 0 0) spelt ∙ List·getD-append first (bare s) 0 0 some ∙ z) in
+      let single : length (digits n) ≡ 1 = digits-plain n small .lead (ap (λ (x : List ℕ). getD x 0 0) spelt ∙ List·getD-append first (ungrouped s) 0 0 some ∙ z) in
       omega (arith, single, long)
       ) in
-      let value : valueFrom (valueFrom 0 first) (bare s) ≡ n = sym (value-append 0 first (bare s)) ∙ ap (valueFrom 0) (sym spelt) ∙ value-digits n in
+      let value : valueFrom (valueFrom 0 first) (ungrouped s) ≡ n = sym (value-append 0 first (ungrouped s)) ∙ ap (valueFrom 0) (sym spelt) ∙ value-digits n in
       let place : at + length first + length s ≡ at + length (first ++ s) = omega (arith, length-append first s) in
       rw (e, run-all all (s ++ rest) (run-underscore (s ++ rest) mark), rest-is line at first (s ++ rest) e, mark, first-group-some first some most lead)
       (groups-read g (valueFrom 0 first) (length first) (at + length first) rest ends (omega (arith, long)) ∙ rw (value, place))
 
   grouped-read : drop at line ≡ grouped (digits n) ++ rest → numberAt line at ≡ N.Of n (at + length (grouped (digits n)))
-  unfolding bare
+  unfolding ungrouped
   grouped-read e = go (c .rest) (c .groups) (c .digits) (c .spelt)
     where
       c : Cut (digits n)
       c = cut (digits n) (digits-all n) (digits-some n)
 
-      go : (s : List ℕ) → Groups s → digits n ≡ c .first ++ bare s → grouped (digits n) ≡ c .first ++ s → numberAt line at ≡ N.Of n (at + length (grouped (digits n)))
+      go : (s : List ℕ) → Groups s → digits n ≡ c .first ++ ungrouped s → grouped (digits n) ≡ c .first ++ s → numberAt line at ≡ N.Of n (at + length (grouped (digits n)))
       go s end p q =
           let same : grouped (digits n) ≡ digits n = q ∙ sym p in
           rw same (plain-read (e ∙ ap (λ (x : List ℕ). x ++ rest) same))
       go s (group {s = t} d g) p q =
           let front : drop at line ≡ c .first ++ (s ++ rest) = e ∙ ap (λ (x : List ℕ). x ++ rest) q ∙ append-assoc (c .first) s rest in
-          in-groups-read (c .first) s (c .all) (c .some) (c .most) (group d g) p refl (omega (arith, ap length (bare-group t d))) front ∙ rw q
+          in-groups-read (c .first) s (c .all) (c .some) (c .most) (group d g) p refl (omega (arith, ap length (ungrouped-group t d))) front ∙ rw q
 
--- a numeral that stands at a place, and whose digits do not go on, is read as its number
+-- a numeral that stands at a place, and that does not go on, is read as its number
 pub numeral-read : (line : List ℕ) (at n : ℕ) (s rest : List ℕ)
     → Numeral n s → drop at line ≡ s ++ rest → numeralEnds rest ≡ true → numberAt line at ≡ N.Of n (at + length s)
 numeral-read line at n s rest m e f = go (m .spelling)
@@ -362,16 +360,16 @@ module _ (line : List ℕ) (at n next : ℕ) where
   in-groups-back l e =
       let (some, most, lead) = first-group-back r l in
       let g = groups-back (valueFrom 0 r) (length r) (at + length r) after n next (omega arith) e in
-      let all : List ℕ = r ++ bare (g .bytes) in
-      let long : length all ≡ length r + length (bare (g .bytes)) = length-append r (bare (g .bytes)) in
+      let all : List ℕ = r ++ ungrouped (g .bytes) in
+      let long : length all ≡ length r + length (ungrouped (g .bytes)) = length-append r (ungrouped (g .bytes)) in
       let d : Plain all =
       record {
         all = all-append (run-digits (drop at line)) (groups-digits (g .groups));
         some = omega (arith, long);
         most = omega (arith, long, g .most);
-        lead = λ z. absurd (lead (sym (List·getD-append r (bare (g .bytes)) 0 0 some) ∙ z));
+        lead = λ z. absurd (lead (sym (List·getD-append r (ungrouped (g .bytes)) 0 0 some) ∙ z));
       } in
-      let value : valueFrom 0 all ≡ n = value-append 0 r (bare (g .bytes)) ∙ sym (g .number) in
+      let value : valueFrom 0 all ≡ n = value-append 0 r (ungrouped (g .bytes)) ∙ sym (g .number) in
       let spelt : digits n ≡ all = ap digits (sym value) ∙ plain-value all d in
       let bytes-are : r ++ g .bytes ≡ grouped (digits n) = sym (grouped-is r (g .bytes) some most (g .groups)) ∙ ap grouped (sym spelt) in
       let rest : drop next line ≡ g .rest = ap (λ (k : ℕ). drop k line) (g .place) ∙ rest-is line (at + length r) (g .bytes) (g .rest) (g .whole) in

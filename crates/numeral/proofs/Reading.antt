@@ -13,9 +13,13 @@ use lib.ListN.{length, drop, getD, drop-of-length-le}
 use lib.Pow.{pow-add}
 use lib.Seq.{drop-cons, getD-drop}
 use Rattle.bits.specs.Choice.{choose}
-use Rattle.bits.proofs.Tests.{neither}
-use Rattle.numeral.specs.Progress.{TellsDigit, digitsEnd, DigitsAt, Progress}
+use Rattle.bits.proofs.Tests.{clash, neither}
+use Rattle.numeral.specs.Progress.{TellsDigit, digitsEnd, DigitsAt, Progress, Ended, Stopped, DigitsUpTo}
 use Rattle.numeral.specs.Reading.{isDigit, numeralEnds, run, valueFrom, atUnderscore}
+
+pub false-and : (t : Bool) → (t && false) ≡ false
+false-and true = refl
+false-and false = refl
 
 -- ---- one byte
 
@@ -161,3 +165,10 @@ progress-more {line} {at} {value} {next} {k} {n} p d h =
 -- the number that is read so far leaves room for k more digits, of 19 in all
 pub room : {line : List ℕ} {at value next : ℕ} (k : ℕ) → Progress line at value next → next + k ≤ at + 19 → value < 10 ^ (19 - k)
 room {at = at} {next = next} k p h = lt-of-lt-of-le (p .passed .small) (pow-le-pow-right {n = 10} (omega arith) {i = next - at} {j = 19 - k} (omega arith))
+
+-- where reading has stopped, as the answer tells
+pub up-to-ended : {line : List ℕ} {at value next : ℕ} → Ended line at value next → DigitsUpTo line at value next true
+up-to-ended r = record { ended = λ e. r; stopped = λ e. absurd (clash refl e) }
+
+pub up-to-stopped : {line : List ℕ} {at value next : ℕ} → Stopped line at value next → DigitsUpTo line at value next false
+up-to-stopped r = record { ended = λ e. absurd (clash e refl); stopped = λ e. r }

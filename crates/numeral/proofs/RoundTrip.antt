@@ -13,14 +13,14 @@ use Rattle.text.specs.Words.{Stands}
 use Rattle.text.specs.Output.{Put}
 use Rattle.text.proofs.OutputLaws.{put-room, room-put, put-same}
 use Rattle.numeral.specs.Digits.{digits, signedDigits}
-use Rattle.numeral.specs.Groups.{bare, carries}
+use Rattle.numeral.specs.Groups.{ungrouped, carriesUnderscore}
 use Rattle.numeral.specs.Numerals.{Numeral, SignedNumeral}
 use Rattle.numeral.specs.Reading.{numeralEnds, numberAt, signedAt, negative, integer}
 use Rattle.numeral.specs.declared.read.Number.the-variants as N
 use Rattle.numeral.specs.declared.read.Signed.the-variants as S
 use Rattle.numeral.proofs.Digits.{digits-some, digits-most}
-use Rattle.numeral.proofs.GroupLaws.{bare-other, bare-same}
-use Rattle.numeral.proofs.Numerals.{numeral-bare, numeral-most, numeral-read, read-numeral}
+use Rattle.numeral.proofs.GroupLaws.{ungrouped-other, ungrouped-same}
+use Rattle.numeral.proofs.Numerals.{numeral-ungrouped, numeral-most, numeral-read, read-numeral}
 use Rattle.numeral.proofs.SignedNumerals.{signed-read, read-signed}
 
 -- a number below 10 ^ 19 has a numeral, its spelling
@@ -44,7 +44,7 @@ put-here {b} {s} {a} {at} {next} room p =
     ap (λ (k : ℕ). drop k a) place ∙ ap (drop (at + length s)) all ∙ drop-at (take at b ++ s) (drop (at + length s) b) (at + length s) long in
     here ∙ ap (λ (r : List ℕ). s ++ r) (sym rest)
 
--- what is written is read back, if no digit follows it
+-- what is written is read back, if neither a digit nor a `_` follows it
 pub written-read : {b a : List ℕ} {at next : ℕ} (n : ℕ) → n < 10 ^ 19 → at + length (digits n) ≤ length b → Put b at (digits n) a next
     → numeralEnds (drop next a) ≡ true → numberAt a at ≡ N.Of n next
 written-read {b} {a} {at} {next} n small room p ends =
@@ -67,11 +67,11 @@ stands-put {Kind} {line} {at} {next} w some =
     (w .after)
 
 -- without its `_` a signed numeral is the spelling of its integer
-pub signed-bare : (z : ℤ) (s : List ℕ) → SignedNumeral z s → bare s ≡ signedDigits z
+pub signed-ungrouped : (z : ℤ) (s : List ℕ) → SignedNumeral z s → ungrouped s ≡ signedDigits z
 unfolding signedDigits
-signed-bare (pos n) s m = numeral-bare n s m
-signed-bare (negsuc n) s (t, m, e) =
-    ap bare e ∙ bare-other 45 t (λ h. omega arith) ∙ ap (λ (x : List ℕ). 45 ∷ x) (numeral-bare (suc n) t m)
+signed-ungrouped (pos n) s m = numeral-ungrouped n s m
+signed-ungrouped (negsuc n) s (t, m, e) =
+    ap ungrouped e ∙ ungrouped-other 45 t (λ h. omega arith) ∙ ap (λ (x : List ℕ). 45 ∷ x) (numeral-ungrouped (suc n) t m)
 
 -- a signed numeral has at most 26 bytes
 pub signed-most : (z : ℤ) (s : List ℕ) → SignedNumeral z s → length s ≤ 26
@@ -85,19 +85,19 @@ signed-some (negsuc n) = omega arith
 
 -- what is read without a `_`, written again, gives the bytes that were read
 module _ (line : List ℕ) (at next : ℕ) where
-  again : {Kind : List ℕ → Type 0} (s : List ℕ) → 1 ≤ length s → (w : Stands Kind line at next) → bare (w .bytes) ≡ s → carries (w .bytes) ≡ false
+  again : {Kind : List ℕ → Type 0} (s : List ℕ) → 1 ≤ length s → (w : Stands Kind line at next) → ungrouped (w .bytes) ≡ s → carriesUnderscore (w .bytes) ≡ false
       → Put line at s line next
   again s some w spelt none =
-      let same : w .bytes ≡ s = sym (bare-same (w .bytes) none) ∙ spelt in
+      let same : w .bytes ≡ s = sym (ungrouped-same (w .bytes) none) ∙ spelt in
       put-same (stands-put w (rw same some)) same
 
-  pub read-written : (n : ℕ) (e : numberAt line at ≡ N.Of n next) → carries (read-numeral line at n next e .bytes) ≡ false → Put line at (digits n) line next
+  pub read-written : (n : ℕ) (e : numberAt line at ≡ N.Of n next) → carriesUnderscore (read-numeral line at n next e .bytes) ≡ false → Put line at (digits n) line next
   read-written n e none =
       let w = read-numeral line at n next e in
-      again (digits n) (digits-some n) w (numeral-bare n (w .bytes) (w .kind)) none
+      again (digits n) (digits-some n) w (numeral-ungrouped n (w .bytes) (w .kind)) none
 
-  pub signed-read-written : (b : Bool) (m : ℕ) (e : signedAt line at ≡ S.Of b m next) → carries (read-signed line at b m next e .bytes) ≡ false
+  pub signed-read-written : (b : Bool) (m : ℕ) (e : signedAt line at ≡ S.Of b m next) → carriesUnderscore (read-signed line at b m next e .bytes) ≡ false
       → Put line at (signedDigits (integer b m)) line next
   signed-read-written b m e none =
       let w = read-signed line at b m next e in
-      again (signedDigits (integer b m)) (signed-some (integer b m)) w (signed-bare (integer b m) (w .bytes) (w .kind)) none
+      again (signedDigits (integer b m)) (signed-some (integer b m)) w (signed-ungrouped (integer b m) (w .bytes) (w .kind)) none

@@ -1,4 +1,4 @@
--- Signed numerals and their reader: where one stands and its digits do not go on, it is read as its integer (`signed-read`); and what is read
+-- Signed numerals and their reader: where one stands and does not go on, it is read as its integer (`signed-read`); and what is read
 -- is a numeral of that integer (`read-signed`).
 use mathlib.Core.Path.{_≡_, refl, sym, ap, _∙_, subst}
 use mathlib.Core.Bool.{Bool, true, false}
@@ -13,8 +13,8 @@ use Rattle.text.specs.Words.{startsWith, wordAt, Stands}
 use Rattle.text.specs.declared.words.Word.{Word}
 use Rattle.text.specs.declared.words.Word.the-variants.{After, Other}
 use Rattle.text.proofs.WordLaws.{word-found, word-other, found-word}
-use Rattle.numeral.specs.Numerals.{Numeral, SignedNumeral, AllDigits, more}
-use Rattle.numeral.specs.Reading.{numeralEnds, numberAt, plain, negated, signedFrom, signedAt, integer, negative}
+use Rattle.numeral.specs.Numerals.{Numeral, SignedNumeral}
+use Rattle.numeral.specs.Reading.{numeralEnds, numberAt, unsigned, negated, signedFrom, signedAt, integer, negative}
 use Rattle.numeral.specs.declared.read.Number.{Number}
 use Rattle.numeral.specs.declared.read.Number.the-variants as N
 use Rattle.numeral.specs.declared.read.Signed.the-variants as S
@@ -32,7 +32,7 @@ no-minus b s low = rw (ne-eqb 45 b (λ e. omega arith))
 
 pub signed-read : (line : List ℕ) (at : ℕ) (z : ℤ) (s rest : List ℕ)
     → SignedNumeral z s → drop at line ≡ s ++ rest → numeralEnds rest ≡ true → signedAt line at ≡ S.Of (negative z) (natAbs z) (at + length s)
-unfolding signedAt signedFrom plain negated
+unfolding signedAt signedFrom unsigned negated
 signed-read line at (pos n) s rest m e f =
     let (b, t, low, spelt) = begins-digit n s m in
     let front : drop at line ≡ b ∷ (t ++ rest) = e ∙ ap (λ (x : List ℕ). x ++ rest) spelt in
@@ -44,10 +44,10 @@ signed-read line at (negsuc n) s rest (m, k, spelt) e f =
     rw (word-found line at (45 ∷ []) (m ++ rest) front, numeral-read line (at + 1) (suc n) m rest k after f, ne-eqb (suc n) 0 (λ h. omega arith), place)
 
 -- a plain numeral, and one after a '-'
-unsigned : (line : List ℕ) (at : ℕ) (b : Bool) (m next : ℕ) (r : Number) → numberAt line at ≡ r → plain r ≡ S.Of b m next → Stands (SignedNumeral (integer b m)) line at next
-unfolding plain
-unsigned line at b m next N.Absent p h = absurd (let k : _≡_ {A = ℕ} 0 1 = cc in omega arith)
-unsigned line at b m next (N.Of n k) p h =
+unsigned-stands : (line : List ℕ) (at : ℕ) (b : Bool) (m next : ℕ) (r : Number) → numberAt line at ≡ r → unsigned r ≡ S.Of b m next → Stands (SignedNumeral (integer b m)) line at next
+unfolding unsigned
+unsigned-stands line at b m next N.Absent p h = absurd (let k : _≡_ {A = ℕ} 0 1 = cc in omega arith)
+unsigned-stands line at b m next (N.Of n k) p h =
     let sign : false ≡ b = cc in
     let same : N.Of n k ≡ N.Of m next = cc in
     let stands : Stands (Numeral m) line at next = read-numeral line at m next (p ∙ same) in
@@ -81,5 +81,5 @@ unfolding signedAt signedFrom
 read-signed line at b m next e = by-word (wordAt line at (45 ∷ [])) refl e
   where
     by-word : (w : Word) → wordAt line at (45 ∷ []) ≡ w → signedFrom w line at ≡ S.Of b m next → Stands (SignedNumeral (integer b m)) line at next
-    by-word Other p h = unsigned line at b m next (numberAt line at) refl h
+    by-word Other p h = unsigned-stands line at b m next (numberAt line at) refl h
     by-word (After first) p h = after-minus line at first b m next (numberAt line first) p refl h

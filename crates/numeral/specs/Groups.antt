@@ -17,11 +17,11 @@ grouped (b ∷ []) = b ∷ []
 grouped (b ∷ c ∷ s) = b ∷ choose (eqb (length (c ∷ s) % 3) 0) (λ _. underscore ∷ grouped (c ∷ s)) (λ _. grouped (c ∷ s))
 
 -- The bytes without their `_`.
-unfoldable pub bare : List ℕ → List ℕ
-bare [] = []
-bare (b ∷ s) = choose (eqb b underscore) (λ _. bare s) (λ _. b ∷ bare s)
+unfoldable pub ungrouped : List ℕ → List ℕ
+ungrouped [] = []
+ungrouped (b ∷ s) = choose (eqb b underscore) (λ _. ungrouped s) (λ _. b ∷ ungrouped s)
 
 -- The bytes carry a `_`.
-unfoldable pub carries : List ℕ → Bool
-carries [] = false
-carries (b ∷ s) = eqb b underscore || carries s
+unfoldable pub carriesUnderscore : List ℕ → Bool
+carriesUnderscore [] = false
+carriesUnderscore (b ∷ s) = eqb b underscore || carriesUnderscore s

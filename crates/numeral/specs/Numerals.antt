@@ -7,7 +7,7 @@ use Prim.Native.Nat.{ℕ, suc, _≤_}
 use lib.IntN.{ℤ, pos, negsuc}
 use lib.ListN.{length, getD}
 use Rattle.numeral.specs.Digits.{digits}
-use Rattle.numeral.specs.Groups.{underscore, grouped, bare}
+use Rattle.numeral.specs.Groups.{underscore, grouped, ungrouped}
 
 -- 'A numeral is 1 to 19 digits, with no leading zero unless it is 0 itself' and 'may now carry `_` between groups of three counted from the right,
 -- either at every group or at none': the spelling of a number, plain or in groups. 'The 19-digit limit counts digits only.' That these are the
@@ -49,5 +49,5 @@ pub record InGroups (s : List ℕ) : Type 0 where
 
 -- Without its `_` a numeral is what document 01 describes, and it has one at every group or none at all.
 pub record Described (s : List ℕ) : Type 0 where
-  pub plain : Plain (bare s)
+  pub plain : Plain (ungrouped s)
   pub carried : AllDigits s ⊎ InGroups s

@@ -1,6 +1,6 @@
 -- A run of digits that is being read from its first digit on, and the groups after it.
 use mathlib.Core.Path.{_≡_}
-use mathlib.Core.Bool.{true, false}
+use mathlib.Core.Bool.{Bool, true, false}
 use mathlib.Core.List.{List, [], _∷_}
 use Prim.Native.Nat.{ℕ, _+_, _-_, _*_, _^_, min, _<_, _≤_}
 use lib.ListN.{length, drop}
@@ -28,17 +28,28 @@ pub record Progress (line : List ℕ) (at value next : ℕ) : Type 0 where
   pub within : next ≤ digitsEnd (length line) at
   pub passed : DigitsAt line at (next - at) value
 
--- Likewise, and they are all the digits of the run, or 19 of them.
-pub record AllRead (line : List ℕ) (at value next : ℕ) : Type 0 where
+-- Likewise, and the numeral ends there.
+pub record Ended (line : List ℕ) (at value next : ℕ) : Type 0 where
   pub progress : Progress line at value next
-  pub last : next < at + 19 → numeralEnds (drop next line) ≡ true
+  pub ends : numeralEnds (drop next line) ≡ true
 
--- Likewise, and a `_` follows them.
-pub record UpToUnderscore (line : List ℕ) (at value next : ℕ) : Type 0 where
+-- Likewise, and it goes on: with a `_`, or with another digit after 19.
+pub record GoesOn (line : List ℕ) (at value next : ℕ) : Type 0 where
   pub progress : Progress line at value next
-  pub follows : atUnderscore (drop next line) ≡ true
+  pub on : numeralEnds (drop next line) ≡ false
+  pub with-underscore : next < at + 19 → atUnderscore (drop next line) ≡ true
 
--- `count` digits are read up to the place, at most 19, and `value` is their number.
+-- Likewise, and one of the two is so.
+pub record Stopped (line : List ℕ) (at value next : ℕ) : Type 0 where
+  pub progress : Progress line at value next
+  pub with-underscore : next < at + 19 → numeralEnds (drop next line) ≡ false → atUnderscore (drop next line) ≡ true
+
+-- Likewise, and the numeral is known to end there, or not yet.
+pub record DigitsUpTo (line : List ℕ) (at value next : ℕ) (known : Bool) : Type 0 where
+  pub ended : known ≡ true → Ended line at value next
+  pub stopped : known ≡ false → Stopped line at value next
+
+-- Of what is read up to a place of the line, `value` is the number: it has at most `count` digits, and `count` is at most 19.
 pub record Counted (line : List ℕ) (value count at : ℕ) : Type 0 where
   pub small : value < 10 ^ count
   pub most : count ≤ 19

@@ -1,5 +1,5 @@
 -- What the readers of numerals answer, for any bytes and any place. `proofs/Numerals.antt` proves that a numeral is answered exactly
--- where one begins whose digits do not go on: `numeral-read`, `read-numeral` and `read-ends`.
+-- where one begins that does not go on: `numeral-read`, `read-numeral` and `read-ends`.
 use mathlib.Core.Bool.{Bool, true, false, not, _&&_, _||_}
 use mathlib.Core.List.{List, [], _∷_}
 use Prim.Native.Nat.{ℕ, _+_, _-_, _*_}
@@ -20,8 +20,8 @@ use Rattle.bits.specs.Choice.{choose}
 abbrev pub isDigit : ℕ → Bool
 isDigit b = leb 48 b && leb b 57
 
--- The byte goes on with a numeral that stands before it: a digit or a `_`; the bytes do not go on with it: they are none, or the first is
--- another byte.
+-- The byte goes on with a numeral that stands before it: it is a digit or a `_`. The numeral ends before bytes that are none, or of which the
+-- first is another byte.
 abbrev pub goesOn : ℕ → Bool
 goesOn b = isDigit b || eqb b underscore
 
@@ -44,7 +44,7 @@ unfoldable pub wellFormed : List ℕ → Bool
 wellFormed [] = false
 wellFormed (b ∷ s) = leb (length s) 18 && (eqb (length s) 0 || not (eqb b 48))
 
--- The number of digits that no `_` follows, with the place after them; or that they are no numeral.
+-- The number that digits spell which no `_` follows, with the place after them; or that they are no numeral.
 unfoldable pub numberIn : List ℕ → ℕ → Number
 numberIn digits at =
     choose (wellFormed digits) (λ _. N.Of (valueFrom 0 digits) (at + length digits)) (λ _. N.Absent)
@@ -86,9 +86,9 @@ unfoldable pub numberAt : List ℕ → ℕ → Number
 numberAt line at = numberFrom (run (drop at line)) (drop (at + length (run (drop at line))) line) at
 
 -- The magnitude and the sign of the signed numeral that begins at the place, with the place after it; or that none does.
-unfoldable pub plain : Number → Signed
-plain (N.Of magnitude next) = S.Of false magnitude next
-plain N.Absent = S.Absent
+unfoldable pub unsigned : Number → Signed
+unsigned (N.Of magnitude next) = S.Of false magnitude next
+unsigned N.Absent = S.Absent
 
 -- -0 is no numeral
 unfoldable pub negated : Number → Signed
@@ -98,7 +98,7 @@ negated N.Absent = S.Absent
 -- after a '-' (45), or without one
 unfoldable pub signedFrom : Word → List ℕ → ℕ → Signed
 signedFrom (After first) line at = negated (numberAt line first)
-signedFrom Other line at = plain (numberAt line at)
+signedFrom Other line at = unsigned (numberAt line at)
 
 unfoldable pub signedAt : List ℕ → ℕ → Signed
 signedAt line at = signedFrom (wordAt line at (45 ∷ [])) line at

@@ -5,7 +5,7 @@ use text::words::word_at;
 ghost use mathlib.Core.Path.{_≡_};
 ghost use Prim.Native.Nat.{_+_, _≤_};
 ghost use lib.ListN.{length, drop};
-ghost use Rattle.numeral.specs.Progress.{TellsDigit, digitsEnd, DigitsAt, Progress, AllRead, UpToUnderscore};
+ghost use Rattle.numeral.specs.Progress.{TellsDigit, digitsEnd, DigitsAt, Progress, Ended, GoesOn, Stopped, DigitsUpTo};
 ghost use Rattle.numeral.specs.Reading.{numeralEnds, numberAt, signedAt};
 
 // A numeral's number with the place after it, or that no numeral begins at the place.
@@ -58,10 +58,9 @@ pub(crate) fn numeral_ends(line: &[u8], at: usize) -> bool
     9 < digit(after)
 }
 
-// The answer where the digits up to a place are read, all that there are or nineteen, and no '_' follows those that are all. A twentieth digit, a
-// '_' after nineteen, a 0 before others, or no digit at all is no numeral.
-fn finished(line: &[u8], at: usize, value: u64, next: usize) -> Number
-    requires { ⌜ AllRead (now line) at value next ⌝ }
+// The answer where the numeral ends at the place up to which digits are read. A 0 before others, or no digit at all, is no numeral.
+fn ended(line: &[u8], at: usize, value: u64, next: usize) -> Number
+    requires { ⌜ Ended (now line) at value next ⌝ }
     ensures { λ r. ⌜ r ≡ numberAt (now (line .entry)) at ⌝ }
 {
     let count = next - at;
@@ -74,17 +73,13 @@ fn finished(line: &[u8], at: usize, value: u64, next: usize) -> Number
     if line[at] == b'0' {
         return Number::Absent;
     }
-    if count == 19 {
-        if !numeral_ends(line, next) {
-            return Number::Absent;
-        }
-    }
     Number::Of(value, next)
 }
 
-// The answer where a '_' follows the digits up to a place. They are the first group: one to three digits, the first no 0.
+// The answer where a '_' follows the digits up to a place, or a twentieth digit does. Before a '_' stands the first group: one to three digits,
+// the first no 0.
 fn first_group(line: &[u8], at: usize, value: u64, next: usize) -> Number
-    requires { ⌜ UpToUnderscore (now line) at value next ⌝ }
+    requires { ⌜ GoesOn (now line) at value next ⌝ }
     ensures { λ r. ⌜ r ≡ numberAt (now (line .entry)) at ⌝ }
 {
     let count = next - at;
@@ -101,32 +96,66 @@ fn first_group(line: &[u8], at: usize, value: u64, next: usize) -> Number
     read_groups(line, value, count, next)
 }
 
-// Reads on from a place up to which digits are read, a digit a turn. Only a byte that is no digit is compared with '_', so that plain digits cost
-// nothing for it.
-fn read_on(line: &[u8], at: usize, mut value: u64, mut next: usize, end: usize) -> Number
-    requires { ⌜ Progress (now line) at value next × (end ≡ digitsEnd (length (now line)) at) ⌝ }
+// The answer where the digits up to a place are read, and a '_', a twentieth digit or no byte at all follows them. Most numerals never come here,
+// so that this is not compiled into what reads them.
+fn stopped(line: &[u8], at: usize, value: u64, next: usize) -> Number
+    requires { ⌜ Stopped (now line) at value next ⌝ }
     ensures { λ r. ⌜ r ≡ numberAt (now (line .entry)) at ⌝ }
+{
+    if numeral_ends(line, next) {
+        return ended(line, at, value, next);
+    }
+    first_group(line, at, value, next)
+}
+
+// The number of the digits that are read, the place after them, and whether the byte there is known to be neither a digit nor a '_'.
+struct DigitsRead {
+    value: u64,
+    next: usize,
+    ends: bool,
+}
+
+// Reads on from a place up to which digits are read, a digit a turn. Only the byte that is no digit is compared with '_', so that plain digits cost
+// nothing for it.
+fn read_on(line: &[u8], at: usize, mut value: u64, mut next: usize, end: usize) -> DigitsRead
+    requires { ⌜ Progress (now line) at value next × (end ≡ digitsEnd (length (now line)) at) ⌝ }
+    ensures { λ r. ⌜ DigitsUpTo (now (line .entry)) at (r .value) (r .next) (r .ends) ⌝ }
 {
     while next < end {
         let b = line[next];
         let d = digit(b);
         if 9 < d {
             if b == b'_' {
-                return first_group(line, at, value, next);
+                break;
             }
-            break;
+            return DigitsRead {
+                value,
+                next,
+                ends: true,
+            };
         }
         value = value * 10 + d;
         next += 1;
     }
-    finished(line, at, value, next)
+    DigitsRead {
+        value,
+        next,
+        ends: false,
+    }
 }
 
 // The numeral at a place, plain or in groups. Nineteen digits fit a u64; with a twentieth it is none.
 pub fn read_number(line: &[u8], at: usize) -> Number
     ensures { λ r. ⌜ r ≡ numberAt (now (line .entry)) at ⌝ }
 {
-    read_on(line, at, 0, at, digits_end(line.len(), at))
+    let read = read_on(line, at, 0, at, digits_end(line.len(), at));
+    if !read.ends {
+        let Number::Of(value, next) = stopped(line, at, read.value, read.next) else {
+            return Number::Absent;
+        };
+        return Number::Of(value, next);
+    }
+    ended(line, at, read.value, read.next)
 }
 
 // The number of the four digits at a place, or a number above 9999 if one of the four bytes is no digit. Such a number promises nothing:
@@ -169,7 +198,14 @@ fn read_long(line: &[u8], at: usize) -> Number
         value = value * 10000 + four;
         next += 4;
     }
-    read_on(line, at, value, next, end)
+    let read = read_on(line, at, value, next, end);
+    if !read.ends {
+        let Number::Of(value, next) = stopped(line, at, read.value, read.next) else {
+            return Number::Absent;
+        };
+        return Number::Of(value, next);
+    }
+    ended(line, at, read.value, read.next)
 }
 
 // -0 is no numeral.

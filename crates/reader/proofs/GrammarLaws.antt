@@ -26,6 +26,7 @@ use Rattle.command.specs.declared.Command.the-variants as C
 use Rattle.command.specs.declared.Reading.{Reading}
 use Rattle.command.specs.declared.Reading.the-variants.{Accepted, NoShape, OutsideLimits}
 use Rattle.command.proofs.LimitLaws.{limited-keeps, limited-breaks}
+use Rattle.command.proofs.SpellingLaws.{spelling-most}
 use Rattle.shapes.proofs.PartLaws.{partsOf, sound, complete, apart}
 
 -- ---- what is parsed is a spelling
@@ -267,5 +268,6 @@ reads-the-grammar line =
           (accepted line c (answer line), λ h. shaped-reading (formOf c) line (h .0) ∙ limited-keeps (formOf c) (h .1) ∙ ap Accepted (form-command c));
       outside = (λ e. refused-2 line (answer line) (two (readingOf line) e), λ h. ap numberOf (shaped-reading (h .0) line (h .1) ∙ limited-breaks (h .0) (h .2)));
       shapeless = (λ e. refused-1 line (one (readingOf line) e), λ h. ap numberOf (no-form line (answer line) h));
+      none-too-long = λ f h. record { spelling = h; short = omega (arith, spelling-most f line h) };
       one = one-form line;
     }

@@ -24,5 +24,7 @@ pub record ReadsTheGrammar (line : List ℕ) : Type 0 where
   pub outside : (numberOf (readingOf line) ≡ 2) ↔ ((f : Form) × Shaped f line × (keeps f ≡ false))
   -- 1 exactly when it is the spelling of no form, or is too long
   pub shapeless : (numberOf (readingOf line) ≡ 1) ↔ ((f : Form) → Shaped f line → ⊥)
+  -- no spelling of a form is too long: the limit refuses none
+  pub none-too-long : (f : Form) → IsSpelling f line → Shaped f line
   -- two forms with one spelling are one form
   pub one : (f g : Form) → IsSpelling f line → IsSpelling g line → f ≡ g

@@ -8,8 +8,8 @@ use native.Mathlib.Omega.{arith}
 use borrow.Author.Tests.{ne-eqb}
 use lib.ListN.{length, take, drop}
 use lib.Seq.{take-at}
-use Rattle.numeral.specs.Groups.{bare, carries}
-use Rattle.numeral.proofs.GroupLaws.{bare-same}
+use Rattle.numeral.specs.Groups.{ungrouped, carriesUnderscore}
+use Rattle.numeral.proofs.GroupLaws.{ungrouped-same}
 use Rattle.writing.specs.Puts.{leastOutput}
 use Rattle.command.specs.Spelling.{plainSpelling}
 use Rattle.command.specs.Forms as F
@@ -19,7 +19,7 @@ use Rattle.command.specs.Causes.{first, dateCauses, formCauses, ownCauses}
 use Rattle.command.specs.declared.Command.{Command}
 use Rattle.command.specs.declared.Reading.{Reading}
 use Rattle.command.specs.declared.Reading.the-variants.{Accepted}
-use Rattle.command.proofs.PlainBytes.{plainBytes, plain-byte, plain-carries, spelling-bytes}
+use Rattle.command.proofs.PlainBytes.{printable, printable-byte, printable-carries, spelling-bytes}
 use Rattle.command.proofs.SpellingLaws.{spelling-plain, uncaused-keeps, plain-spells, plain-most}
 use Rattle.lines.specs.Lines.{lf, breaks}
 use Rattle.reader.specs.Reading.{readingOf}
@@ -40,23 +40,23 @@ line-is c out e =
     (ap (λ (w : WriteResult). take (w .length) (w .buffer)) all ∙ take-at line (drop (length line) out) (length line) refl, none)
 
 line-plain : (line : List ℕ) (c : Command) (out : List ℕ) → readingOf line ≡ Accepted c → NotRefused c out
-    → (written c out ≡ writeResult 0 (length (bare line)) (bare line ++ drop (length (bare line)) out)) × (bare line ≡ plainSpelling (formOf c))
+    → (written c out ≡ writeResult 0 (length (ungrouped line)) (ungrouped line ++ drop (length (ungrouped line)) out)) × (ungrouped line ≡ plainSpelling (formOf c))
 line-plain line c out e accepted =
     let (shaped, kept) = reads-the-grammar line .command c .0 e in
-    let same : bare line ≡ plainSpelling (formOf c) = spelling-plain (formOf c) line (shaped .spelling) in
+    let same : ungrouped line ≡ plainSpelling (formOf c) = spelling-plain (formOf c) line (shaped .spelling) in
     let (room, none) = written-accepts c out .0 accepted in
     (written-line c out room none ∙ ap (λ (s : List ℕ). writeResult 0 (length s) (s ++ drop (length s) out)) (sym same), same)
 
-line-back : (line : List ℕ) (c : Command) (out : List ℕ) → readingOf line ≡ Accepted c → NotRefused c out → carries line ≡ false
+line-back : (line : List ℕ) (c : Command) (out : List ℕ) → readingOf line ≡ Accepted c → NotRefused c out → carriesUnderscore line ≡ false
     → written c out ≡ writeResult 0 (length line) (line ++ drop (length line) out)
 line-back line c out e accepted none =
-    line-plain line c out e accepted .0 ∙ ap (λ (s : List ℕ). writeResult 0 (length s) (s ++ drop (length s) out)) (bare-same line none)
+    line-plain line c out e accepted .0 ∙ ap (λ (s : List ℕ). writeResult 0 (length s) (s ++ drop (length s) out)) (ungrouped-same line none)
 
 -- bytes of a plain spelling are no LF
-plain-unbroken : (s : List ℕ) → plainBytes s ≡ true → breaks s ≡ 0
+plain-unbroken : (s : List ℕ) → printable s ≡ true → breaks s ≡ 0
 unfolding breaks
 plain-unbroken [] e = refl
-plain-unbroken (b ∷ s) e = let (low, other, others) = plain-byte b s e in rw (ne-eqb b lf (λ h. omega (arith, h))) (plain-unbroken s others)
+plain-unbroken (b ∷ s) e = let (low, other, others) = printable-byte b s e in rw (ne-eqb b lf (λ h. omega (arith, h))) (plain-unbroken s others)
 
 -- a form that keeps its limits has no cause but those of its dates
 kept-causes : (f : Form) → keeps f ≡ true → first (formCauses f) ≡ first (dateCauses f)
@@ -102,7 +102,7 @@ round-trip =
         λ e. same-command c d (sym (command-back c out a) ∙ ap readingOf e ∙ command-back d out′ b),
         λ e. line-is c out a .0 ∙ ap (λ (x : Command). plainSpelling (formOf x)) e ∙ sym (line-is d out′ b .0),
       );
-      no-underscore = λ c out e. ap carries (line-is c out e .0) ∙ plain-carries (plainSpelling (formOf c)) (spelling-bytes (formOf c));
+      no-underscore = λ c out e. ap carriesUnderscore (line-is c out e .0) ∙ printable-carries (plainSpelling (formOf c)) (spelling-bytes (formOf c));
       no-lf = λ c out e. ap breaks (line-is c out e .0) ∙ plain-unbroken (plainSpelling (formOf c)) (spelling-bytes (formOf c));
       accepts = written-accepts;
       form-line = form-line;

@@ -6,7 +6,7 @@ use mathlib.Core.List.{List, _++_}
 use mathlib.Core.Logic.{_↔_}
 use Prim.Native.Nat.{ℕ, _≤_}
 use lib.ListN.{length, take, drop}
-use Rattle.numeral.specs.Groups.{bare, carries}
+use Rattle.numeral.specs.Groups.{ungrouped, carriesUnderscore}
 use Rattle.writing.specs.Puts.{leastOutput}
 use Rattle.command.specs.Forms.{Form}
 use Rattle.command.specs.Limits.{formOf, commandOf}
@@ -31,9 +31,9 @@ pub record RoundTrip : Type 0 where
   -- Order 4: 'a line read and written gives the plain spelling'. Every line that is read as a command, whether a keeper refuses it or not, is written
   -- without its `_` at the front of every buffer in which the command is not refused, and that is the plain spelling of its form.
   pub line-plain : (line : List ℕ) (c : Command) (out : List ℕ) → readingOf line ≡ Accepted c → NotRefused c out
-      → (written c out ≡ writeResult 0 (length (bare line)) (bare line ++ drop (length (bare line)) out)) × (bare line ≡ plainSpelling (formOf c))
+      → (written c out ≡ writeResult 0 (length (ungrouped line)) (ungrouped line ++ drop (length (ungrouped line)) out)) × (ungrouped line ≡ plainSpelling (formOf c))
   -- 'Each accepted line, read and written, gives the same bytes', if it carries no `_`
-  pub line-back : (line : List ℕ) (c : Command) (out : List ℕ) → readingOf line ≡ Accepted c → NotRefused c out → carries line ≡ false
+  pub line-back : (line : List ℕ) (c : Command) (out : List ℕ) → readingOf line ≡ Accepted c → NotRefused c out → carriesUnderscore line ≡ false
       → written c out ≡ writeResult 0 (length line) (line ++ drop (length line) out)
   -- A buffer with room is such a buffer for every line that is accepted: what is read as a command is within its limits, so that of 'the refusals
   -- that they have before 3' only those of its dates are left, 11 and 12. No command but a window has any.
@@ -44,7 +44,7 @@ pub record RoundTrip : Type 0 where
   -- 'Two such commands have equal lines exactly when they are equal.'
   pub same-line : (c d : Command) (out out′ : List ℕ) → NotRefused c out → NotRefused d out′ → (lineIn c out ≡ lineIn d out′) ↔ (c ≡ d)
   -- 'The writer of order 1 never writes `_`'
-  pub no-underscore : (c : Command) (out : List ℕ) → NotRefused c out → carries (lineIn c out) ≡ false
+  pub no-underscore : (c : Command) (out : List ℕ) → NotRefused c out → carriesUnderscore (lineIn c out) ≡ false
   -- 'The line has no LF'
   pub no-lf : (c : Command) (out : List ℕ) → NotRefused c out → breaks (lineIn c out) ≡ 0
   -- not refused exactly if there is room and no cause of the command's own holds

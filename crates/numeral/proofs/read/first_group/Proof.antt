@@ -1,4 +1,4 @@
--- `numeral::read::first_group` meets its contract: the number of digits before the `_` and the first of them pick the answer.
+-- `numeral::read::first_group` meets its contract: the number of digits before what goes on and the first of them pick the answer.
 use borrow.Author.Needs.{needs}
 use mathlib.Core.Path.{sym, _∙_}
 use native.Mathlib.Omega.{arith}
@@ -19,7 +19,7 @@ shared-slice-read-lead : tie.Need-shared-slice-read-lead
 shared-slice-read-lead c = omega arith
 
 returns-3 : tie.Need-returns-3
-returns-3 c = sym (first-zero (c .before .before .before .before .before .pre) (omega arith) (c .if3 .taken))
+returns-3 c = sym (first-zero (c .before .before .before .before .before .pre) (omega arith) (c .before .before .if2 .left) (c .if3 .taken))
 
 read-groups-requires : tie.Need-read-groups-requires
 read-groups-requires c κs =

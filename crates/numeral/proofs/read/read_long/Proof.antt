@@ -1,6 +1,8 @@
 -- `numeral::read::read_long` meets its contract. The loop's invariant is that of `read_on`, which goes on from where the loop ends. The measure
 -- is what is left up to the end.
 use borrow.Author.Needs.{needs}
+use borrow.Author.Tests.{not-true, not-false}
+use mathlib.Core.Path.{sym, _∙_}
 use native.Mathlib.Omega.{arith}
 use Prim.Native.Nat.{_-_}
 use Rattle.numeral.specs.Progress.{Progress}
@@ -44,8 +46,26 @@ loop-again c = progress-more (c .before .before .before .loop .inv) (c .before .
 read-on-requires : tie.Need-read-on-requires Inv-loop μ-loop
 read-on-requires c κs = (c .before .loop .inv, c .before .before .digits-end .ensures)
 
+stopped-requires : tie.Need-stopped-requires Inv-loop μ-loop
+stopped-requires c κs = c .before .before .read-on .ensures .stopped (not-true _ (c .if2 .taken))
+
+enum-known-value : tie.Need-enum-known-value Inv-loop μ-loop
+enum-known-value c = search needs
+
+enum-told : tie.Need-enum-told Inv-loop μ-loop
+enum-told c = search needs
+
 returns : tie.Need-returns Inv-loop μ-loop
-returns c = c .read-on .ensures
+returns c = sym (c .enum-told .given .1) ∙ c .before .before .stopped .ensures
+
+returns-2 : tie.Need-returns-2 Inv-loop μ-loop
+returns-2 c = sym (c .before .value .given .1) ∙ c .before .before .before .stopped .ensures
+
+ended-requires : tie.Need-ended-requires Inv-loop μ-loop
+ended-requires c κs = c .before .before .read-on .ensures .ended (not-false _ (c .if2 .left))
+
+returns-3 : tie.Need-returns-3 Inv-loop μ-loop
+returns-3 c = c .ended .ensures
 
 pub read-long-spec : {M : Type 1} → statement M
 read-long-spec =
@@ -63,4 +83,10 @@ read-long-spec =
     loop-less
     loop-again
     read-on-requires
-    returns)
+    stopped-requires
+    enum-known-value
+    enum-told
+    returns
+    returns-2
+    ended-requires
+    returns-3)

@@ -1,10 +1,10 @@
 -- `numeral::read::read_on` meets its contract. The loop's invariant is `Progress`. The measure is what is left up to the end.
 use borrow.Author.Needs.{needs}
 use native.Mathlib.Omega.{arith}
-use mathlib.Core.Logic.{⊎-elim}
 use Prim.Native.Nat.{_-_}
+use Rattle.bits.proofs.Tests.{clash}
 use Rattle.numeral.specs.Progress.{Progress}
-use Rattle.numeral.proofs.Reading.{digit-here, progress-more, room, ends-at-end, ends-other, underscore-here}
+use Rattle.numeral.proofs.Reading.{digit-here, progress-more, room, ends-at-end, ends-other, underscore-here, up-to-ended, up-to-stopped}
 use Rattle.numeral.proofs.read.read_on.Statement.{statement}
 use Rattle.numeral.proofs.read.read_on.Tie as tie
 
@@ -23,14 +23,16 @@ shared-slice-read-b c = omega arith
 digit-requires : tie.Need-digit-requires Inv-loop μ-loop
 digit-requires c κs = search needs
 
-first-group-requires : tie.Need-first-group-requires Inv-loop μ-loop
-first-group-requires c κs =
+-- a byte stands there that is neither a digit nor a `_`
+returns : tie.Need-returns Inv-loop μ-loop
+returns c =
     let turn = c .before .before .before .before .before in
     let line = turn .before .before .args .line .now in
-    record { progress = turn .loop .inv; follows = underscore-here line (turn .loop .next) (omega arith) (c .if2 .taken) }
-
-returns : tie.Need-returns Inv-loop μ-loop
-returns c = c .first-group .ensures
+    up-to-ended
+    record {
+      progress = turn .loop .inv;
+      ends = ends-other line (turn .loop .next) (omega arith) (c .if2 .left) (c .before .before .digit .ensures) (c .before .if1 .taken);
+    }
 
 mul-value : tie.Need-mul-value Inv-loop μ-loop
 mul-value c = omega (arith, room 1 (c .before .before .before .before .loop .inv) (omega arith))
@@ -48,18 +50,22 @@ loop-again : tie.Need-loop-again Inv-loop μ-loop
 loop-again c =
     progress-more (c .before .before .before .before .loop .inv) (digit-here _ _ _ (omega arith) (c .if1 .left) (c .before .digit .ensures)) (omega arith)
 
-finished-requires : tie.Need-finished-requires Inv-loop μ-loop
-finished-requires c κs =
+-- the end is reached
+returns-2 : tie.Need-returns-2 Inv-loop μ-loop
+returns-2 c =
     let line = c .before .before .before .args .line .now in
-    let next = c .before .loop .next in
+    up-to-stopped
     record {
       progress = c .before .loop .inv;
-      last = λ h.
-          ⊎-elim (λ w. ends-at-end line next (omega arith)) (λ w. ends-other line next (omega arith) (w .4 .left) (w .2 .ensures) (w .3 .taken)) (c .loop-test .came);
+      with-underscore = λ h f. absurd (clash (ends-at-end line (c .before .loop .next) (omega arith)) f);
     }
 
-returns-2 : tie.Need-returns-2 Inv-loop μ-loop
-returns-2 c = c .finished .ensures
+-- a `_` stands there
+returns-3 : tie.Need-returns-3 Inv-loop μ-loop
+returns-3 c =
+    let turn = c .before .before .before .before .before in
+    let line = turn .before .before .args .line .now in
+    up-to-stopped record { progress = turn .loop .inv; with-underscore = λ h f. underscore-here line (turn .loop .next) (omega arith) (c .if2 .taken) }
 
 pub read-on-spec : {M : Type 1} → statement M
 read-on-spec =
@@ -70,12 +76,11 @@ read-on-spec =
     loop-holds
     shared-slice-read-b
     digit-requires
-    first-group-requires
     returns
     mul-value
     add-value
     add-next
     loop-less
     loop-again
-    finished-requires
-    returns-2)
+    returns-2
+    returns-3)

@@ -2,7 +2,7 @@
 use borrow.Author.Needs.{needs}
 use borrow.Author.Tests.{eq-eqb, ne-eqb}
 use mathlib.Core.Path.{sym, _∙_}
-use Rattle.numeral.specs.Reading.{signedAt, signedFrom, plain, negated}
+use Rattle.numeral.specs.Reading.{signedAt, signedFrom, unsigned, negated}
 use Rattle.numeral.proofs.read.read_signed.Statement.{statement}
 use Rattle.numeral.proofs.read.read_signed.Tie as tie
 
@@ -28,12 +28,12 @@ enum-told-2 : tie.Need-enum-told-2
 enum-told-2 c = search needs
 
 returns : tie.Need-returns
-unfolding signedAt signedFrom plain negated
+unfolding signedAt signedFrom unsigned negated
 returns c =
     rw (sym (c .before .before .before .before .before .word-at .ensures) ∙ c .before .before .before .enum-told .given .1, sym (c .before .before .read-long .ensures) ∙ c .enum-told2 .given .1)
 
 returns-2 : tie.Need-returns-2
-unfolding signedAt signedFrom plain negated
+unfolding signedAt signedFrom unsigned negated
 returns-2 c =
     rw (sym (c .before .before .before .before .before .before .word-at .ensures) ∙ c .before .before .before .before .enum-told .given .1, sym (c .before .before .before .read-long .ensures) ∙ c .before .magnitude .given .1)
 
@@ -47,17 +47,17 @@ enum-told-3 : tie.Need-enum-told-3
 enum-told-3 c = search needs
 
 returns-3 : tie.Need-returns-3
-unfolding signedAt signedFrom plain negated
+unfolding signedAt signedFrom unsigned negated
 returns-3 c =
     rw (sym (c .before .before .before .before .before .before .word-at .ensures) ∙ c .before .before .before .before .first .given .1, sym (c .before .before .read-long2 .ensures) ∙ c .enum-told3 .given .1)
 
 returns-4 : tie.Need-returns-4
-unfolding signedAt signedFrom plain negated
+unfolding signedAt signedFrom unsigned negated
 returns-4 c =
     rw (sym (c .before .before .before .before .before .before .before .before .word-at .ensures) ∙ c .before .before .before .before .before .before .first .given .1, sym (c .before .before .before .before .read-long2 .ensures) ∙ c .before .before .magnitude2 .given .1, eq-eqb _ 0 (c .if1 .taken))
 
 returns-5 : tie.Need-returns-5
-unfolding signedAt signedFrom plain negated
+unfolding signedAt signedFrom unsigned negated
 returns-5 c =
     rw (sym (c .before .before .before .before .before .before .before .before .word-at .ensures) ∙ c .before .before .before .before .before .before .first .given .1, sym (c .before .before .before .before .read-long2 .ensures) ∙ c .before .before .magnitude2 .given .1, ne-eqb _ 0 (c .if1 .left))
 
