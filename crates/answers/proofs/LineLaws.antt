@@ -5,24 +5,20 @@ use mathlib.Core.List.{List, [], _∷_, _++_, append-assoc}
 use Prim.Native.Nat.{ℕ, _+_, _<_, _≤_}
 use native.Mathlib.Numerals.{add-one}
 use native.Mathlib.Omega.{arith}
-use lib.IntN.{ℤ}
 use lib.ListN.{length, set, length-append}
 use lib.Seq.{set-split, append-snoc}
 use Rattle.text.specs.Words.{bytes}
 use Rattle.text.proofs.OutputLaws.{room-put}
-use Rattle.numeral.specs.Digits.{digits, signedDigits}
+use Rattle.numeral.specs.Digits.{digits}
 use Rattle.numeral.proofs.Digits.{digits-most}
-use Rattle.moment.specs.declared.Interval.{Interval}
-use Rattle.rules.specs.declared.Finding.{Finding}
-use Rattle.rules.specs.declared.Finding.the-variants.{Conflict, Taken, Kept}
 use Rattle.rules.specs.declared.WindowState.{WindowState}
 use Rattle.rules.specs.declared.WindowState.the-variants.{Open, Shut, Unsure}
-use Rattle.writing.specs.Puts.{Puts, pair}
+use Rattle.writing.specs.Puts.{Puts}
 use Rattle.writing.proofs.PutsLaws.{_then_}
 use Rattle.keeper.specs.declared.Answer.{Answer}
 use Rattle.keeper.specs.declared.Keeper.{Keeper}
-use Rattle.answers.specs.Answers.{edgesLine, findingWord, windowWord, IsLine}
-use Rattle.answers.specs.Writing.{lineEnd, PutShort, LinePut}
+use Rattle.answers.specs.Answers.{windowWord, IsLine}
+use Rattle.answers.specs.Writing.{PutShort, LinePut}
 
 -- by the case that the answer is
 pub by-line : {a d : Answer} {k : Keeper} {b s x : List ℕ} {at n : ℕ} → a ≡ d → IsLine d k s → PutShort b at s x n → LinePut a k b at x n
@@ -50,33 +46,7 @@ pub number-put : {b w x y z : List ℕ} {at i j r : ℕ} (n : ℕ) → n < 256 �
 number-put n h l p q e =
     record { puts = puts-same (p then q then e) (simp append-assoc); short = simp length-append (omega (arith, digits-most 2 n (omega arith))) }
 
--- a word before a line that ends in edges
-edges-after : (w : List ℕ) (n : ℕ) (edges : Interval) → edgesLine w n edges ≡ w ++ edgesLine [] n edges
-unfolding edgesLine
-edges-after w n edges = simp append-assoc
-
-pub edges-put : {b w x y : List ℕ} {at i r : ℕ} (n : ℕ) (edges : Interval) → length w ≤ 10 → Puts b at w x i
-    → Puts x i (edgesLine [] n edges ++ lineEnd) y r × (length (edgesLine [] n edges) ≤ 65) → PutShort b at (edgesLine w n edges) y r
-edges-put {w = w} n edges l p (q, m) =
-    rw (edges-after w n edges) (record { puts = puts-same (p then q) (simp append-assoc); short = rw length-append (omega arith) })
-
-pub word-most : (f : Finding) → length (findingWord f) ≤ 10
-word-most Conflict = omega arith
-word-most Taken = omega arith
-word-most Kept = omega arith
-
 pub window-most : (w : WindowState) → length (windowWord w) ≤ 10
 window-most Open = omega arith
 window-most Shut = omega arith
 window-most Unsure = omega arith
-
--- what is put of a line that ends in edges, and of the time line, behind its word
-pub edges-parts : (n : ℕ) (edges : Interval) → digits n ++ bytes " (" ++ signedDigits (edges .lower) ++ bytes " " ++ signedDigits (edges .upper) ++ bytes "))\n" ≡ edgesLine [] n edges ++ lineEnd
-unfolding edgesLine pair
-edges-parts n edges = simp append-assoc
-
-pub time-parts : (w : List ℕ) (a b c d : ℤ) (m n : ℕ)
-    → w ++ bytes "(" ++ signedDigits a ++ bytes " " ++ signedDigits b ++ bytes ") (" ++ signedDigits c ++ bytes " " ++ signedDigits d ++ (bytes ") " ++ digits m ++ bytes " " ++ digits n ++ bytes ")\n")
-    ≡ w ++ pair a b ++ bytes " " ++ pair c d ++ bytes " " ++ digits m ++ bytes " " ++ digits n ++ bytes ")" ++ lineEnd
-unfolding pair
-time-parts w a b c d m n = simp append-assoc

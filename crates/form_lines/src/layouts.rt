@@ -4,6 +4,7 @@ use digits::write::put_number;
 use moment::Interval;
 use text::output::put_bytes;
 use writing::LEAST_OUTPUT;
+use writing::NO_ROOM;
 use writing::put_pair;
 ghost use mathlib.Core.Path.{_≡_};
 ghost use mathlib.Core.Bool.{not, true};
@@ -16,8 +17,6 @@ ghost use Rattle.form_lines.specs.Written.{writeResult, writes};
 ghost use Rattle.form_lines.specs.Lines.{edgedEnd, edgedLine, numberedLine};
 
 pub(crate) const OUTSIDE_LIMITS: u8 = 2;
-
-pub(crate) const NO_ROOM: u8 = 10;
 
 // 10 if the buffer is too short, then 2 if a limit is broken.
 fn refusal_of(short: bool, kept: bool) -> u8

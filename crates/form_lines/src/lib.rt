@@ -1,12 +1,9 @@
 // The line of each form, written to a lent buffer of any length: document 02, order 1. Numbers have 64 bits, so that one that no command can
 // hold is refused, and not cut short.
-use crate::layouts::NO_ROOM;
 use crate::layouts::OUTSIDE_LIMITS;
 use crate::layouts::write_bare;
 use crate::layouts::write_edged;
 use crate::layouts::write_numbered;
-use crate::windows::put_window;
-use crate::windows::window_refusal;
 use calendar::Date;
 use command::limits::board_within;
 use command::limits::reply_within;
@@ -14,10 +11,12 @@ use command::limits::start_within;
 use command::limits::ticks_within;
 use moment::Interval;
 use rules::Rule;
+use window_lines::put_window;
+use window_lines::window_refusal;
 use writing::LEAST_OUTPUT;
+use writing::NO_ROOM;
 
 mod layouts;
-mod windows;
 
 ghost use mathlib.Core.Path.{_≡_};
 ghost use Rattle.command.specs.Forms.{start, pass, request, reply, drop, read, waiting, window};

@@ -1,5 +1,5 @@
 // One call with a line: a keeper by value, a line of any bytes, and a lent output of any length.
-use answers::put_answer;
+use answer_writer::put_answer;
 use answers::put_refusal;
 use command::Reading;
 use keeper::Answer;

@@ -1,5 +1,3 @@
 -- Laws about the definitions of specs/.
 pub mod ServingLaws
 pub mod TurnLaws
-pub mod ReadLaws
-pub mod ProgramLaws

@@ -1,4 +1,4 @@
--- Laws of a turn: from lines that were answered to what is left and held.
+-- Laws of a turn: from lines that were answered to what is left.
 use mathlib.Core.Path.{_≡_, refl, sym, ap, _∙_}
 use mathlib.Core.Bool.{Bool, true, false}
 use mathlib.Core.List.{List, [], _∷_, _++_}
@@ -6,17 +6,15 @@ use Prim.Native.Nat.{ℕ, suc, _+_, _≤_, _<_}
 use native.Mathlib.Omega.{arith}
 use borrow.Author.Tests.{leb-true, leb-false}
 use lib.Dec.{leb}
-use lib.ListN.{length, take, drop, length-append, length-take, drop-of-length-le}
+use lib.ListN.{length, take, drop, length-append, drop-of-length-le}
 use lib.Seq.{take-at, drop-at}
 use Rattle.keeper.specs.declared.Keeper.{Keeper}
 use Rattle.writing.specs.Puts.{leastOutput}
 use Rattle.reader.specs.Reading.{longestLine}
-use Rattle.lines.specs.Lines.{breaks, heldOf, Held}
+use Rattle.lines.specs.Lines.{breaks}
 use Rattle.bits.proofs.Tests.{by-test}
 use Rattle.stream.specs.Stream.{Answers, Turn}
 use Rattle.serve.specs.Serving.{keeperNext, IsAnswer, Answered, LinesAnswered}
-use Rattle.serve.specs.Turning.{between, InOrder}
-use Rattle.serve.specs.declared.turn.Stream.{Stream}
 
 module _ {k next : Keeper} {bytes before rest after : List ℕ} {filled : ℕ} (a : Answered k bytes before next rest filled after) where
   -- the front of the output is what was written, and the rest is as it was
@@ -79,17 +77,3 @@ module _ {k next : Keeper} {bytes before rest after : List ℕ} {filled : ℕ} {
         more = λ f. absurd (let z : _≡_ {A = ℕ} 0 1 = cc in omega arith);
         held = λ _. (e, l .done t);
       }
-
--- what is held stands at the front of the buffer
-pub held-front : {buffer held buffer′ : List ℕ} {n : ℕ} → Held buffer held buffer′ n → between buffer′ 0 n ≡ held
-held-front {buffer} {held} {buffer′} {n} h = ap (λ (b : List ℕ). take n b) (h .buffer) ∙ take-at held (drop (length held) buffer) n (sym (h .count))
-
-pub held-within : {buffer held buffer′ : List ℕ} {n : ℕ} → Held buffer held buffer′ n → n ≤ length buffer′
-held-within {buffer} {held} h = omega (arith, h .count, ap length (h .buffer), length-append held (drop (length held) buffer))
-
-pub held-most : (buffer : List ℕ) (from end most : ℕ) → length (heldOf buffer from end most) ≤ most
-held-most buffer from end most = rw (length-take most (drop from (take end buffer))) (omega arith)
-
--- the places lie within another buffer of the same length
-pub in-order-kept : {s : Stream} {buffer buffer′ : List ℕ} → InOrder s buffer → length buffer′ ≡ length buffer → InOrder s buffer′
-in-order-kept o e = record { order = o .order; within = omega (arith, o .within, e); front = o .front }

@@ -1,5 +1,2 @@
--- What the contracts of `serve` cite, and what is claimed of the program's whole output.
+-- What the contract of `answer_lines` cites.
 pub mod Serving
-pub mod Turning
-pub mod Reading
-pub mod Program

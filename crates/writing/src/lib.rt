@@ -10,6 +10,9 @@ ghost use Rattle.writing.specs.Puts.{leastOutput, Puts, pair};
 // The least output that a line is written to.
 pub const LEAST_OUTPUT: usize = 256;
 
+// The refusal where the output is shorter.
+pub const NO_ROOM: u8 = 10;
+
 // '(LOWER UPPER)', '(CENTRE ERROR)'
 pub fn put_pair(out: &mut [u8], at: usize, first: i64, second: i64) -> usize
     ensures { λ r. ⌜ Puts (now (out .entry)) at (pair first second) (now (out .exit)) r × (length (pair first second) ≤ 43) ⌝ }
