@@ -76,8 +76,8 @@ fn ended(line: &[u8], at: usize, value: u64, next: usize) -> Number
     Number::Of(value, next)
 }
 
-// The answer where a '_' follows the digits up to a place, or a twentieth digit does. Before a '_' stands the first group: one to three digits,
-// the first no 0.
+// The answer where a '_' follows the digits up to a place, or a twentieth digit does. They are a first group only if they are one to three, and the
+// first is no 0.
 fn first_group(line: &[u8], at: usize, value: u64, next: usize) -> Number
     requires { ⌜ GoesOn (now line) at value next ⌝ }
     ensures { λ r. ⌜ r ≡ numberAt (now (line .entry)) at ⌝ }
@@ -115,8 +115,7 @@ struct DigitsRead {
     ends: bool,
 }
 
-// Reads on from a place up to which digits are read, a digit a turn. Only the byte that is no digit is compared with '_', so that plain digits cost
-// nothing for it.
+// Reads on from a place up to which digits are read, a digit a turn. Only the byte that is no digit is compared with '_', one comparison a numeral.
 fn read_on(line: &[u8], at: usize, mut value: u64, mut next: usize, end: usize) -> DigitsRead
     requires { ⌜ Progress (now line) at value next × (end ≡ digitsEnd (length (now line)) at) ⌝ }
     ensures { λ r. ⌜ DigitsUpTo (now (line .entry)) at (r .value) (r .next) (r .ends) ⌝ }
@@ -144,7 +143,8 @@ fn read_on(line: &[u8], at: usize, mut value: u64, mut next: usize, end: usize) 
     }
 }
 
-// The numeral at a place, plain or in groups. Nineteen digits fit a u64; with a twentieth it is none.
+// The numeral at a place, plain or in groups. Nineteen digits fit a u64; with a twentieth it is none. What `stopped` answers is taken apart and put
+// together again: handed on as it is, every answer would be kept in memory, also where `stopped` is not called.
 pub fn read_number(line: &[u8], at: usize) -> Number
     ensures { λ r. ⌜ r ≡ numberAt (now (line .entry)) at ⌝ }
 {
@@ -183,7 +183,8 @@ fn four_digits(line: &[u8], at: usize) -> u64
     a * 1000 + b * 100 + c * 10 + d
 }
 
-// As `read_number`, in fewer steps where the numeral is long: four digits a turn as long as four bytes are left.
+// As `read_number`, in fewer steps where the numeral is long: four digits a turn as long as four bytes are left. Its last lines are those of
+// `read_number`: a function for both would be called and not compiled into them.
 fn read_long(line: &[u8], at: usize) -> Number
     ensures { λ r. ⌜ r ≡ numberAt (now (line .entry)) at ⌝ }
 {
