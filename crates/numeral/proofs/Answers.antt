@@ -2,17 +2,18 @@
 use mathlib.Core.Path.{_≡_, refl, sym, ap, _∙_}
 use mathlib.Core.Bool.{Bool, true, false, not, _&&_}
 use mathlib.Core.List.{List, [], _∷_}
-use Prim.Native.Nat.{ℕ, suc, _+_, _-_, _<_, _≤_}
-use native.Mathlib.Nat.{lt-of-not-le}
+use Prim.Native.Nat.{ℕ, suc, _+_, _-_, _^_, _<_, _≤_}
+use native.Mathlib.Nat.{lt-of-not-le, add-zero}
 use native.Mathlib.Omega.{arith}
-use borrow.Author.Tests.{le-leb, lt-leb, eq-eqb, ne-eqb}
+use borrow.Author.Tests.{le-leb, lt-leb, leb-true, leb-false, eq-eqb, ne-eqb}
 use lib.Dec.{leb}
 use lib.ListN.{length, drop, getD}
+use lib.Seq.{getD-drop}
 use Rattle.bits.proofs.Tests.{clash, by-test}
-use Rattle.numeral.specs.Progress.{Progress, Ended, GoesOn}
+use Rattle.numeral.specs.Progress.{TellsDigit, Progress, Ended, EndedInside, GoesOn}
 use Rattle.numeral.specs.Reading.{numeralEnds, run, valueFrom, wellFormed, firstGroup, atUnderscore, numberIn, groupsFrom, numberFrom, numberAt}
 use Rattle.numeral.specs.declared.read.Number.the-variants as N
-use Rattle.numeral.proofs.Reading.{false-and, run-none, run-underscore, run-some, ends-no-underscore, run-head}
+use Rattle.numeral.proofs.Reading.{false-and, run-none, run-underscore, run-some, run-other, run-value, ends-no-underscore, run-head, digit-here}
 
 -- ---- the answer, by the length of the run and its first byte
 
@@ -101,6 +102,9 @@ module _ {line : List ℕ} {at value next : ℕ} (p : Progress line at value nex
   here : at + (next - at) ≡ next
   here = omega arith
 
+  no-value : next - at ≡ 0 → value ≡ 0
+  no-value e = let small : value < 10 ^ 0 = rw e at (p .passed .small) in omega arith
+
   longer : length (run (drop at line)) ≡ (next - at) + length (run (drop next line))
   longer = rw here at (p .passed .long)
 
@@ -148,6 +152,52 @@ module _ {line : List ℕ} {at value next : ℕ} (read : Ended line at value nex
   pub number-more : 1 < next - at → (getD line at 0 ≡ 48 → ⊥) → numberAt line at ≡ N.Of value next
   number-more h z =
       number (formed-more _ (omega (arith, count)) (omega (arith, count, most)) (λ e. z (sym (run-head line at (omega (arith, count))) ∙ e)))
+
+-- Likewise, and a byte stands there: the answer by the value and the first two bytes.
+module _ {line : List ℕ} {at value next : ℕ} (read : EndedInside line at value next) where
+  first-inside : at < length line
+  first-inside = omega (arith, read .ended .progress .from, read .inside)
+
+  -- a 0 at the place is a digit
+  module _ (zero : getD line at 0 ≡ 48) where
+    zero-then : next - at ≡ 1 + length (run (drop (at + 1) line))
+    zero-then =
+        sym (count (read .ended)) ∙ digit-here line at 0 first-inside (omega arith) record { digit = λ h. zero; other = λ h. absurd (omega arith) } .long
+
+    pub second-inside : at + 1 < length line
+    second-inside = omega (arith, read .ended .progress .from, read .inside, zero-then)
+
+    module _ {d : ℕ} (told : TellsDigit (getD line (at + 1) 0) d) where
+      pub inside-zeros : d ≤ 9 → numberAt line at ≡ N.Absent
+      inside-zeros h =
+          let second = digit-here line (at + 1) d second-inside h told .long in
+          absent-zero (read .ended) (omega (arith, zero-then, second)) zero
+
+      pub inside-zero : 9 < d → numberAt line at ≡ N.Of value next
+      inside-zero h = number-one (read .ended) (zero-then ∙ rw (run-other line (at + 1) second-inside (told .other h)) (omega arith))
+
+  module _ (other : getD line at 0 ≡ 48 → ⊥) where
+    -- digits of which the first is no 0 have a number above 0
+    some-value : 0 < next - at → 0 < value
+    some-value h =
+        let many : 0 < length (run (drop at line)) = omega (arith, count (read .ended)) in
+        let above = run-value (drop at line) many (λ e. other (sym (getD-drop at line 0 0 ∙ rw (add-zero at)) ∙ e)) in
+        omega (arith, above, value-is (read .ended .progress) (over (read .ended)))
+
+    pub inside-none : value ≡ 0 → numberAt line at ≡ N.Absent
+    inside-none h = absent-none (read .ended) (omega (arith, lt-of-not-le (λ (l : 1 ≤ next - at). let some = some-value (omega arith) in omega (arith, some))))
+
+    pub inside-some : (value ≡ 0 → ⊥) → numberAt line at ≡ N.Of value next
+    inside-some h = by-test (leb (next - at) 1) one more
+      where
+        some : 0 < next - at
+        some = lt-of-not-le (λ (l : next - at ≤ 0). h (no-value (read .ended .progress) (omega arith)))
+
+        one : leb (next - at) 1 ≡ true → numberAt line at ≡ N.Of value next
+        one e = number-one (read .ended) (omega (arith, some, leb-true (next - at) 1 e))
+
+        more : leb (next - at) 1 ≡ false → numberAt line at ≡ N.Of value next
+        more e = number-more (read .ended) (leb-false (next - at) 1 e) other
 
 -- The digits up to a place are read, and a `_` follows them.
 module _ {line : List ℕ} {at value next : ℕ} (p : Progress line at value next) (follows : atUnderscore (drop next line) ≡ true) where

@@ -4,7 +4,7 @@ use mathlib.Core.Path.{_≡_, refl, sym, ap, _∙_}
 use mathlib.Core.Bool.{Bool, true, false, not, _&&_, _||_}
 use mathlib.Core.List.{List, [], _∷_}
 use Prim.Native.Nat.{ℕ, _+_, _-_, _*_, _^_, _<_, _≤_}
-use native.Mathlib.Nat.{add-mul, mul-assoc, add-assoc, mul-one, mul-le-mul-right, pow-le-pow-right, lt-of-lt-of-le, add-zero}
+use native.Mathlib.Nat.{add-mul, mul-assoc, add-assoc, mul-one, mul-le-mul-right, pow-le-pow-right, lt-of-lt-of-le, lt-of-not-le, add-zero}
 use native.Mathlib.Numerals.{add-one}
 use native.Mathlib.Omega.{arith}
 use borrow.Author.Tests.{le-leb, lt-ltb, leb-true, ne-eqb, eqb-true, ltb-true, ltb-false, not-true, not-false}
@@ -14,7 +14,7 @@ use lib.Pow.{pow-add}
 use lib.Seq.{drop-cons, getD-drop}
 use Rattle.bits.specs.Choice.{choose}
 use Rattle.bits.proofs.Tests.{clash, neither}
-use Rattle.numeral.specs.Progress.{TellsDigit, digitsEnd, DigitsAt, Progress, Ended, Stopped, DigitsUpTo}
+use Rattle.numeral.specs.Progress.{TellsDigit, digitsEnd, DigitsAt, Progress, EndedInside, Stopped, DigitsUpTo}
 use Rattle.numeral.specs.Reading.{isDigit, numeralEnds, run, valueFrom, atUnderscore}
 
 pub false-and : (t : Bool) → (t && false) ≡ false
@@ -94,6 +94,29 @@ run-more : (b : ℕ) (s : List ℕ) → isDigit b ≡ true → run (b ∷ s) ≡
 unfolding run
 run-more b s e = rw e
 
+-- a byte at a place that is no digit begins no run
+pub run-other : (line : List ℕ) (at : ℕ) → at < length line → isDigit (getD line at 0) ≡ false → run (drop at line) ≡ []
+unfolding run
+run-other line at inside e = rw (drop-cons line at 0 inside, e)
+
+-- a run of which the first byte is no 0 spells a number above 0: what is read on does not fall
+value-from : (v : ℕ) (s : List ℕ) → v ≤ valueFrom v s
+unfolding valueFrom
+value-from v [] = omega arith
+value-from v (b ∷ s) = omega (arith, value-from (v * 10 + (b - 48)) s)
+
+pub run-value : (s : List ℕ) → 0 < length (run s) → (getD s 0 0 ≡ 48 → ⊥) → 0 < valueFrom 0 (run s)
+unfolding run valueFrom
+run-value [] h z = absurd (omega arith)
+run-value (b ∷ s) h z = go (isDigit b) refl h
+  where
+    go : (t : Bool) → isDigit b ≡ t → 0 < length (choose t (λ _. b ∷ run s) (λ _. [])) → 0 < valueFrom 0 (choose t (λ _. b ∷ run s) (λ _. []))
+    go true e k =
+        let low = digit-bounds b e .0 in
+        let some : 48 < b = lt-of-not-le (λ (l : b ≤ 48). z (omega (arith, low))) in
+        omega (arith, value-from (0 * 10 + (b - 48)) (run s))
+    go false e k = absurd (omega arith)
+
 value-more : (v d : ℕ) (s : List ℕ) → valueFrom v ((48 + d) ∷ s) ≡ valueFrom (v * 10 + d) s
 unfolding valueFrom
 value-more v d s =
@@ -167,7 +190,7 @@ pub room : {line : List ℕ} {at value next : ℕ} (k : ℕ) → Progress line a
 room {at = at} {next = next} k p h = lt-of-lt-of-le (p .passed .small) (pow-le-pow-right {n = 10} (omega arith) {i = next - at} {j = 19 - k} (omega arith))
 
 -- where reading has stopped, as the answer tells
-pub up-to-ended : {line : List ℕ} {at value next : ℕ} → Ended line at value next → DigitsUpTo line at value next true
+pub up-to-ended : {line : List ℕ} {at value next : ℕ} → EndedInside line at value next → DigitsUpTo line at value next true
 up-to-ended r = record { ended = λ e. r; stopped = λ e. absurd (clash refl e) }
 
 pub up-to-stopped : {line : List ℕ} {at value next : ℕ} → Stopped line at value next → DigitsUpTo line at value next false

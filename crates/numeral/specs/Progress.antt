@@ -33,7 +33,12 @@ pub record Ended (line : List ℕ) (at value next : ℕ) : Type 0 where
   pub progress : Progress line at value next
   pub ends : numeralEnds (drop next line) ≡ true
 
--- Likewise, and it goes on: with a `_`, or with another digit after 19.
+-- Likewise, and a byte of the line stands there.
+pub record EndedInside (line : List ℕ) (at value next : ℕ) : Type 0 where
+  pub ended : Ended line at value next
+  pub inside : next < length line
+
+-- From the place, the digits up to the place `next` are read, and the numeral goes on: with a `_`, or with another digit after 19.
 pub record GoesOn (line : List ℕ) (at value next : ℕ) : Type 0 where
   pub progress : Progress line at value next
   pub on : numeralEnds (drop next line) ≡ false
@@ -46,7 +51,7 @@ pub record Stopped (line : List ℕ) (at value next : ℕ) : Type 0 where
 
 -- Likewise, and the numeral is known to end there, or not yet.
 pub record DigitsUpTo (line : List ℕ) (at value next : ℕ) (known : Bool) : Type 0 where
-  pub ended : known ≡ true → Ended line at value next
+  pub ended : known ≡ true → EndedInside line at value next
   pub stopped : known ≡ false → Stopped line at value next
 
 -- Of what is read up to a place of the line, `value` is the number: it has at most `count` digits, and `count` is at most 19.

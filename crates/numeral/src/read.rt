@@ -5,7 +5,7 @@ use text::words::word_at;
 ghost use mathlib.Core.Path.{_≡_};
 ghost use Prim.Native.Nat.{_+_, _≤_};
 ghost use lib.ListN.{length, drop};
-ghost use Rattle.numeral.specs.Progress.{TellsDigit, digitsEnd, DigitsAt, Progress, Ended, GoesOn, Stopped, DigitsUpTo};
+ghost use Rattle.numeral.specs.Progress.{TellsDigit, digitsEnd, DigitsAt, Progress, Ended, EndedInside, GoesOn, Stopped, DigitsUpTo};
 ghost use Rattle.numeral.specs.Reading.{numeralEnds, numberAt, signedAt};
 
 // A numeral's number with the place after it, or that no numeral begins at the place.
@@ -71,6 +71,25 @@ fn ended(line: &[u8], at: usize, value: u64, next: usize) -> Number
         return Number::Of(value, next);
     }
     if line[at] == b'0' {
+        return Number::Absent;
+    }
+    Number::Of(value, next)
+}
+
+// As `ended`, where a byte follows the numeral. It asks for the value and the first two bytes, and not for the number of digits, which the loop would
+// otherwise count beside the place.
+fn ended_inside(line: &[u8], at: usize, value: u64, next: usize) -> Number
+    requires { ⌜ EndedInside (now line) at value next ⌝ }
+    ensures { λ r. ⌜ r ≡ numberAt (now (line .entry)) at ⌝ }
+{
+    let first = line[at];
+    if first == b'0' {
+        if digit(line[at + 1]) <= 9 {
+            return Number::Absent;
+        }
+        return Number::Of(value, next);
+    }
+    if value == 0 {
         return Number::Absent;
     }
     Number::Of(value, next)
@@ -155,7 +174,7 @@ pub fn read_number(line: &[u8], at: usize) -> Number
         };
         return Number::Of(value, next);
     }
-    ended(line, at, read.value, read.next)
+    ended_inside(line, at, read.value, read.next)
 }
 
 // The number of the four digits at a place, or a number above 9999 if one of the four bytes is no digit. Such a number promises nothing:
@@ -206,7 +225,7 @@ fn read_long(line: &[u8], at: usize) -> Number
         };
         return Number::Of(value, next);
     }
-    ended(line, at, read.value, read.next)
+    ended_inside(line, at, read.value, read.next)
 }
 
 // -0 is no numeral.

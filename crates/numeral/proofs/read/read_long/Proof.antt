@@ -61,11 +61,11 @@ returns c = sym (c .enum-told .given .1) ∙ c .before .before .stopped .ensures
 returns-2 : tie.Need-returns-2 Inv-loop μ-loop
 returns-2 c = sym (c .before .value .given .1) ∙ c .before .before .before .stopped .ensures
 
-ended-requires : tie.Need-ended-requires Inv-loop μ-loop
-ended-requires c κs = c .before .before .read-on .ensures .ended (not-false _ (c .if2 .left))
+ended-inside-requires : tie.Need-ended-inside-requires Inv-loop μ-loop
+ended-inside-requires c κs = c .before .before .read-on .ensures .ended (not-false _ (c .if2 .left))
 
 returns-3 : tie.Need-returns-3 Inv-loop μ-loop
-returns-3 c = c .ended .ensures
+returns-3 c = c .ended-inside .ensures
 
 pub read-long-spec : {M : Type 1} → statement M
 read-long-spec =
@@ -88,5 +88,5 @@ read-long-spec =
     enum-told
     returns
     returns-2
-    ended-requires
+    ended-inside-requires
     returns-3)

@@ -27,12 +27,12 @@ returns c = sym (c .enum-told .given .1) ∙ c .before .before .stopped .ensures
 returns-2 : tie.Need-returns-2
 returns-2 c = sym (c .before .value .given .1) ∙ c .before .before .before .stopped .ensures
 
-ended-requires : tie.Need-ended-requires
-ended-requires c κs = c .before .before .read-on .ensures .ended (not-false _ (c .if1 .left))
+ended-inside-requires : tie.Need-ended-inside-requires
+ended-inside-requires c κs = c .before .before .read-on .ensures .ended (not-false _ (c .if1 .left))
 
 returns-3 : tie.Need-returns-3
-returns-3 c = c .ended .ensures
+returns-3 c = c .ended-inside .ensures
 
 pub read-number-spec : {M : Type 1} → statement M
 read-number-spec =
-    tie.close (tie.spec digits-end-requires read-on-requires stopped-requires enum-known-value enum-told returns returns-2 ended-requires returns-3)
+    tie.close (tie.spec digits-end-requires read-on-requires stopped-requires enum-known-value enum-told returns returns-2 ended-inside-requires returns-3)

@@ -28,11 +28,8 @@ returns : tie.Need-returns Inv-loop μ-loop
 returns c =
     let turn = c .before .before .before .before .before in
     let line = turn .before .before .args .line .now in
-    up-to-ended
-    record {
-      progress = turn .loop .inv;
-      ends = ends-other line (turn .loop .next) (omega arith) (c .if2 .left) (c .before .before .digit .ensures) (c .before .if1 .taken);
-    }
+    let ends = ends-other line (turn .loop .next) (omega arith) (c .if2 .left) (c .before .before .digit .ensures) (c .before .if1 .taken) in
+    up-to-ended record { ended = record { progress = turn .loop .inv; ends = ends }; inside = omega arith }
 
 mul-value : tie.Need-mul-value Inv-loop μ-loop
 mul-value c = omega (arith, room 1 (c .before .before .before .before .loop .inv) (omega arith))
