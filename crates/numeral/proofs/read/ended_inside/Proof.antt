@@ -20,7 +20,7 @@ digit-requires c κs = search needs
 
 -- a 0 and another digit
 returns : tie.Need-returns
-returns c = sym (inside-zeros (c .before .before .before .before .before .before .pre) (c .before .before .before .if1 .taken) (c .before .digit .ensures) (c .if2 .taken))
+returns c = sym (inside-zeros (c .before .before .before .before .before .before .pre) (c .before .before .before .if1 .taken) (c .before .digit .ensures) (omega (arith, c .if2 .taken)))
 
 -- 0 itself
 returns-2 : tie.Need-returns-2

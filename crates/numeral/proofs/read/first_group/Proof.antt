@@ -13,7 +13,7 @@ returns : tie.Need-returns
 returns c = sym (first-none (c .before .before .pre) (c .if1 .taken))
 
 returns-2 : tie.Need-returns-2
-returns-2 c = sym (first-long (c .before .before .before .pre) (c .if2 .taken))
+returns-2 c = sym (first-long (c .before .before .before .pre) (omega (arith, c .if2 .taken)))
 
 shared-slice-read-lead : tie.Need-shared-slice-read-lead
 shared-slice-read-lead c = omega arith

@@ -28,7 +28,7 @@ returns : tie.Need-returns Inv-loop μ-loop
 returns c =
     let turn = c .before .before .before .before .before in
     let line = turn .before .before .args .line .now in
-    let ends = ends-other line (turn .loop .next) (omega arith) (c .if2 .left) (c .before .before .digit .ensures) (c .before .if1 .taken) in
+    let ends = ends-other line (turn .loop .next) (omega arith) (c .if2 .left) (c .before .before .digit .ensures) (omega (arith, c .before .if1 .taken)) in
     up-to-ended record { ended = record { progress = turn .loop .inv; ends = ends }; inside = omega arith }
 
 mul-value : tie.Need-mul-value Inv-loop μ-loop
