@@ -46,7 +46,7 @@ printable-carries (b ∷ s) e = let (low, mark, others) = printable-byte b s e i
 
 -- ---- parts have such bytes
 
-plain-append : (s t : List ℕ) → printable s ≡ true → printable t ≡ true → printable (s ++ t) ≡ true
+pub plain-append : (s t : List ℕ) → printable s ≡ true → printable t ≡ true → printable (s ++ t) ≡ true
 unfolding printable
 plain-append [] t p q = q
 plain-append (b ∷ s) t p q = let (this, others) = both (printableByte b) (printable s) p in rw this (plain-append s t others q)
@@ -55,12 +55,12 @@ digit-plain : (b : ℕ) (s : List ℕ) → 48 ≤ b → b ≤ 57 → printable s
 unfolding printable
 digit-plain b s low high r = rw (le-leb 32 b (omega arith), le-leb b 126 (omega arith), ne-eqb b underscore (λ e. omega arith)) r
 
-digits-plain : {s : List ℕ} → AllDigits s → printable s ≡ true
+pub digits-plain : {s : List ℕ} → AllDigits s → printable s ≡ true
 unfolding printable
 digits-plain none = refl
 digits-plain (more {b} {s} low high rest) = digit-plain b s low high (digits-plain rest)
 
-signed-plain : (z : ℤ) → printable (signedDigits z) ≡ true
+pub signed-plain : (z : ℤ) → printable (signedDigits z) ≡ true
 unfolding signedDigits printable
 signed-plain (pos n) = digits-plain (digits-all n)
 signed-plain (negsuc n) = digits-plain (digits-all (suc n))
