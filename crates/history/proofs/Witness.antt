@@ -23,7 +23,7 @@ pub counted : let l = logAfter logStart allRun in (l .taken ≡ 1) × (l .kept �
 unfolding startsWith wordAt run valueFrom wellFormed numberIn numberFrom numberAt unsigned negated signedFrom signedAt inRange largerOf smallerOf shareOne boardWithin claimWithin ticksWithin tagWithin edgesWithin limited ruleAt endAt readParts parseAs parse shapedFrom readingOf widened bracket conflicting narrowed outward noWider adopted bothInRange judgedBy judged leaves countBelow first ownCauses replyBracket replyVerdict keeperCauses causes refusal updated logStart logStarted stateWith logAsked logEnded logReplied logAccepted accepting logged logAfter eventOf
 counted = (refl, refl, refl, refl, refl)
 
--- 60 lies from 0 through 100 and in the bracket 50 through 150 of the taken reply, and not in that of the kept one
+-- 60 lies from 0 through 2000100 and in the bracket 50 through 1000150 of the taken reply, and not in that of the kept one, which begins at 100
 pub kept-stays : coursesAfter logStart noCourse keptRun (pos 60)
 unfolding startsWith wordAt run valueFrom wellFormed numberIn numberFrom numberAt unsigned negated signedFrom signedAt inRange largerOf smallerOf shareOne boardWithin claimWithin ticksWithin tagWithin edgesWithin limited ruleAt endAt readParts parseAs parse shapedFrom readingOf widened bracket conflicting narrowed outward noWider adopted bothInRange judgedBy judged leaves countBelow first ownCauses replyBracket replyVerdict keeperCauses causes refusal updated logStart logStarted stateWith logAsked logEnded logReplied logAccepted accepting logged logAfter eventOf
 kept-stays = (record { from = leZ-yes tt; through = leZ-yes tt }, record { from = leZ-yes tt; through = leZ-yes tt })

@@ -8,29 +8,29 @@ abbrev inputsOf : List String → List Input
 inputsOf [] = []
 inputsOf (l ∷ ls) = record { line = bytes l; room = 256 } ∷ inputsOf ls
 
--- a reply that is taken, and one that is kept
+-- a reply that is taken, its width with a tick of 1000000 ns on either side being that of the edges, and one that is wider and kept
 abbrev pub keptRun : List Input
 keptRun =
     inputsOf
-    ("(start 3 mm 0 (0 100))"
+    ("(start 3 mm 0 (0 2000100))"
     ∷ "(request 4)"
     ∷ "(request 5)"
-    ∷ "(reply 4 1 (50 150))"
-    ∷ "(reply 5 2 (100 300))"
+    ∷ "(reply 4 1 (1000050 1000150))"
+    ∷ "(reply 5 2 (1000100 1000300))"
     ∷ [])
 
--- and then one that conflicts, and a drop
+-- and then one whose bracket begins behind the edges, which conflicts, and a drop
 abbrev pub allRun : List Input
 allRun =
     inputsOf
-    ("(start 3 mm 0 (0 100))"
+    ("(start 3 mm 0 (0 2000100))"
     ∷ "(request 4)"
     ∷ "(request 5)"
-    ∷ "(reply 4 1 (50 150))"
-    ∷ "(reply 5 2 (100 300))"
+    ∷ "(reply 4 1 (1000050 1000150))"
+    ∷ "(reply 5 2 (1000100 1000300))"
     ∷ "(request 6)"
     ∷ "(request 7)"
-    ∷ "(reply 6 3 (500 600))"
+    ∷ "(reply 6 3 (3000151 3000251))"
     ∷ "(drop 7)"
     ∷ "(read)"
     ∷ "(pass x)"

@@ -76,6 +76,6 @@ module _ (slot : ℕ) (begins ends : Date) where
         rw (past-own started none, on, is)
 
   -- the keeper stays as it was, whatever is answered
-  pub window-applied : (k : Keeper) → apply k (C.Window slot begins ends) ≡ outcomeOf (windowAnswer (countsAsStarted k) (k .edges) slot begins ends) k
-  unfolding apply refusal causes ownCauses keeperCauses stateOf accepted told windowAnswer
+  pub window-applied : (k : Keeper) → apply k (C.Window slot begins ends) ≡ outcomeOf (windowAnswer (countsAsStarted k) (told (k .claim) (k .edges)) slot begins ends) k
+  unfolding apply refusal causes ownCauses keeperCauses stateOf accepted windowAnswer
   window-applied k = by-test (eqb (first (own ++ cause 3 (not (countsAsStarted k)) ∷ [])) 0) (λ e. rw e) (λ e. rw e)

@@ -27,6 +27,7 @@ use rules::edges::bracket_of;
 use rules::edges::centre_of;
 use rules::edges::error_of;
 use rules::edges::outward_span;
+use rules::edges::told_of;
 use rules::edges::widen;
 use rules::judge::judge;
 use rules::judge::leaves_the_range;
@@ -163,7 +164,7 @@ impl Keeper {
         }
     }
 
-    // Nothing changes. The edges of a keeper that counts as started are in the range, so their sum fits.
+    // Nothing changes. The edges of a keeper that counts as started are in the range, so those that are told, and their sum, fit.
     pub(crate) fn read(self, started: bool) -> Outcome
         requires { ⌜ started ≡ countsAsStarted self ⌝ }
         ensures { λ r. ⌜ r ≡ apply self C.Read ⌝ }
@@ -174,9 +175,9 @@ impl Keeper {
         let edges = self.edges;
         Outcome {
             answer: Answer::Time {
-                edges,
-                centre: centre_of(edges),
-                error: error_of(edges),
+                edges: told_of(self.claim, edges),
+                centre: centre_of(self.claim, edges),
+                error: error_of(self.claim, edges),
                 conflicts: self.conflicts,
                 waiting: count_of(self.waiting),
             },
@@ -204,7 +205,7 @@ impl Keeper {
         ensures { λ r. ⌜ r ≡ apply self (C.Window slot start end) ⌝ }
     {
         Outcome {
-            answer: window_answer(started, self.edges, slot, start, end),
+            answer: window_answer(started, self.claim, self.edges, slot, start, end),
             keeper: self,
         }
     }

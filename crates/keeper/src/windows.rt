@@ -1,4 +1,5 @@
-// What is answered of a heater's window: document 02, order 3. It takes the edges that are told, and not the keeper, since a window changes nothing in the keeper.
+// What is answered of a heater's window: document 02, order 3. It takes claim and edges, and not the keeper, since a window changes nothing in the
+// keeper.
 use crate::Answer;
 use calendar::Date;
 use command::windows::WindowSpan;
@@ -6,17 +7,22 @@ use command::windows::window_span;
 use moment::Interval;
 use rules::windows::window_state;
 ghost use mathlib.Core.Path.{_≡_};
+ghost use mathlib.Core.Bool.{true};
+ghost use Rattle.moment.specs.Intervals.{edgesWithin};
+ghost use Rattle.rules.specs.Rules.{told};
 ghost use Rattle.keeper.specs.Windows.{windowAnswer};
 
-// A window has its own refusals before 3.
+// A window has its own refusals before 3. The edges of a keeper that counts as started are within their limits.
 pub(crate) fn window_answer(
     started: bool,
+    claim: u16,
     edges: Interval,
     slot: u8,
     start: Date,
     end: Date,
 ) -> Answer
-    ensures { λ r. ⌜ r ≡ windowAnswer started edges slot start end ⌝ }
+    requires { ⌜ (started ≡ true → edgesWithin edges ≡ true) ⌝ }
+    ensures { λ r. ⌜ r ≡ windowAnswer started (told claim edges) slot start end ⌝ }
 {
     let span = window_span(slot as u64, start, end);
     match span {
@@ -24,7 +30,7 @@ pub(crate) fn window_answer(
             if !started {
                 return Answer::Refused(3);
             }
-            Answer::Heater(slot, window_state(window, edges))
+            Answer::Heater(slot, window_state(window, claim, edges))
         }
         WindowSpan::Refused(number) => Answer::Refused(number),
     }

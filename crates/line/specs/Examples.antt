@@ -1,4 +1,5 @@
--- Document 01's thirteen marked examples, as one table: the lines so far, a line, and its answer.
+-- Document 01's thirteen marked examples, as one table: the lines so far, a line, and its answer. 'The run in document 01 is stored anew, and the
+-- marked table with it, at claim 200 where it names none' (document 02, order 5): the answers are those that follow now.
 use mathlib.Core.Path.{_≡_}
 use mathlib.Core.List.{List, [], _∷_}
 use Prim.Native.Nat.{ℕ}
@@ -54,11 +55,11 @@ examples =
     ∷ example (take 4 wholeRun) "(reply 4 1 (9999000 10001000))" "(taken 4 (14996000 15002000))"
     ∷ example (take 5 wholeRun) "(reply 4 1 (9999000 10001000))" "(no 7)"
     ∷ example (take 6 wholeRun) "(request 4)" "(sent 4 2)"
-    ∷ example (take 7 wholeRun) "(reply 4 2 (15002001 15002001))" "(conflict 4 (14996000 15002000))"
-    ∷ example (take 8 wholeRun) "(read)" "(time (14996000 15002000) (14999000 3000) 1 0)"
+    ∷ example (take 7 wholeRun) "(reply 4 2 (15002001 15002001))" "(taken 4 (14996000 15002000))"
+    ∷ example (take 8 wholeRun) "(read)" "(time (14996000 16002200) (15499100 503100) 0 0)"
     ∷ example (take 9 wholeRun) "(pass 12x7)" "(no 1)"
-    ∷ example ("(start 3 im 200 (-5 2))" ∷ []) "(read)" "(time (-5 2) (-2 4) 0 0)"
-    ∷ example mmRun "(reply 4 1 (14997000 15005000))" "(taken 4 (14997000 15005000))"
+    ∷ example ("(start 3 im 200 (-5 2))" ∷ []) "(read)" "(time (-5 1000202) (500098 500104) 0 0)"
+    ∷ example mmRun "(reply 4 1 (14997000 15005000))" "(kept 4 (14996000 15004000))"
     ∷ example mmRun "(reply 4 1 (14997000 15005001))" "(kept 4 (14996000 15004000))"
     ∷ []
 

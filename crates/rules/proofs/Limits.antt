@@ -10,7 +10,7 @@ use Rattle.moment.specs.Intervals.{shareOne, bothInRange, edgesWithin}
 use Rattle.moment.specs.declared.Interval.{Interval}
 use Rattle.moment.proofs.Integers.{ints, sum, dif, max-is, min-is}
 use Rattle.moment.proofs.Within.{within-read, within-made, ordered-within}
-use Rattle.rules.specs.Rules.{widened, conflicting, narrowed, adopted}
+use Rattle.rules.specs.Rules.{widened, conflicting, narrowed, adopted, told}
 use Rattle.rules.proofs.Sets.{ticks-apart}
 
 pub widened-within : (claim n : ℕ) (edges : Interval) → claim ≤ 50000 → edgesWithin edges ≡ true → bothInRange (widened claim n edges) ≡ true → edgesWithin (widened claim n edges) ≡ true
@@ -34,3 +34,8 @@ unfolding adopted
 adopted-within span reply h e range =
     let theirs = within-read reply e in
     ordered-within (adopted span reply) range (omega (ints, dif (reply .lower) span, sum (reply .upper) span))
+
+-- the told edges are in order too; their upper one may be past the range
+pub told-order : (claim : ℕ) (edges : Interval) → edges .lower ≤ℤ edges .upper → told claim edges .lower ≤ℤ told claim edges .upper
+unfolding told
+told-order claim edges order = omega (ints, sum (edges .upper) (pos (longest claim)))

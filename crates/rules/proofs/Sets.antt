@@ -1,24 +1,29 @@
--- The rules as sets of moments: what a pass makes of the moments within the edges, and what a reply leaves of them. Demand 3 rests on these
--- laws.
+-- The rules as sets of moments: what a pass makes of the moments within the edges, what a reply leaves of them, and what is told of them. Demand
+-- 3 rests on these laws.
 use mathlib.Core.Path.{_≡_}
 use mathlib.Core.Bool.{true, false}
-use Prim.Native.Nat.{ℕ, _-_, _*_, _≤_, max}
+use mathlib.Core.Logic.{_↔_}
+use Prim.Native.Nat.{ℕ, _+_, _-_, _*_, _≤_, max}
 use native.Mathlib.Nat.{mul-le-mul-left}
 use native.Mathlib.Omega.{arith}
 use borrow.Author.Tests.{not-true}
 use lib.IntN.{ℤ, pos, _+ℤ_, _-ℤ_}
 use lib.Signed.{_≤ℤ_}
-use Rattle.moment.specs.Moment.{shortest, longest}
+use Rattle.moment.specs.Moment.{shortest, longest, largerOf, smallerOf}
 use Rattle.moment.specs.declared.Interval.{Interval}
-use Rattle.moment.proofs.Integers.{ints, up, dn, sum, dif}
+use Rattle.moment.proofs.Integers.{ints, up, dn, sum, dif, max-is, min-is}
 use Rattle.moment.proofs.IntervalLaws.{meet, share-made}
 use Rattle.bits.proofs.Tests.{clash}
-use Rattle.rules.specs.Rules.{widened, bracket, conflicting, narrowed, outward, adopted}
-use Rattle.moment.specs.Intervals.{Holds, shareOne}
+use Rattle.rules.specs.Rules.{widened, bracket, conflicting, narrowed, outward, adopted, told}
+use Rattle.moment.specs.Intervals.{interval, Holds, shareOne}
 
 -- a tick's shortest length is at most its longest, and so are those of n ticks
 pub ticks-apart : (claim n : ℕ) → n * shortest claim ≤ n * longest claim
 ticks-apart claim n = mul-le-mul-left n (omega arith)
+
+-- the ticks of a wait and one more
+pub one-more : (claim w : ℕ) → (w + 1) * longest claim ≡ w * longest claim + longest claim
+one-more claim w = omega arith
 
 -- a course that was within the edges is within those of a pass
 pub passed-within : (claim n : ℕ) (edges : Interval) (x m : ℤ) (d : ℕ) → Holds edges x → n * shortest claim ≤ d → d ≤ n * longest claim → m ≡ x +ℤ pos d → Holds (widened claim n edges) m
@@ -55,30 +60,51 @@ passed-reached claim n edges m order h =
       sum = omega (ints, sum (m -ℤ pos over) (pos over));
     }
 
--- A bracket holds the moments that lie in the reply's edges or up to w longest ticks after them.
-pub bracket-within : (claim w : ℕ) (reply : Interval) (m : ℤ) → Reached reply 0 (w * longest claim) m → Holds (bracket claim w reply) m
-unfolding bracket
-bracket-within claim w reply m c =
-    let within = c .within in
-    let same = c .sum in
-    omega (ints, sum (reply .upper) (pos (w * longest claim)), dif (reply .lower) (pos (w * longest claim)), sum (c .moment) (pos (c .gained)), c .most-gained)
+-- A moment that lies, from some moment of the interval, at most so many nanoseconds before or after it.
+pub record Near (i : Interval) (before after : ℕ) (m : ℤ) : Type 0 where
+  pub moment : ℤ
+  pub within : Holds i moment
+  pub from : (moment -ℤ pos before) ≤ℤ m
+  pub through : m ≤ℤ (moment +ℤ pos after)
 
-pub bracket-reached : (claim w : ℕ) (reply : Interval) (m : ℤ) → reply .lower ≤ℤ reply .upper → Holds (bracket claim w reply) m → Reached reply 0 (w * longest claim) m
+-- An interval moved outward by these holds those moments and no other. The moment that one is near to is itself, or the edge that it lies beyond.
+module _ (i : Interval) (before after : ℕ) (m : ℤ) where
+  abbrev nearest : ℤ
+  nearest = smallerOf (i .upper) (largerOf (i .lower) m)
+
+  abbrev moved : Interval
+  moved = interval (i .lower -ℤ pos before) (i .upper +ℤ pos after)
+
+  near-reached : i .lower ≤ℤ i .upper → Holds moved m → Near i before after m
+  near-reached order h =
+      let high = max-is (i .lower) m in
+      let low = min-is (i .upper) (largerOf (i .lower) m) in
+      let least = dif (i .lower) (pos before) in
+      let most = sum (i .upper) (pos after) in
+      record {
+        moment = nearest;
+        within = omega ints;
+        from = omega (ints, dif nearest (pos before));
+        through = omega (ints, sum nearest (pos after));
+      }
+
+  near-within : Near i before after m → Holds moved m
+  near-within c =
+      omega (ints, c .within, c .from, c .through, dif (i .lower) (pos before), sum (i .upper) (pos after), dif (c .moment) (pos before), sum (c .moment) (pos after))
+
+-- The bracket holds the moments from one longest tick before a moment of the reply's edges through w longest ticks after one, and no other.
+pub bracket-moments : (claim w : ℕ) (reply : Interval) (m : ℤ) → reply .lower ≤ℤ reply .upper → Holds (bracket claim w reply) m ↔ Near reply (longest claim) (w * longest claim) m
 unfolding bracket
-bracket-reached claim w reply m order h =
-    let past = m -ℤ reply .upper in
-    let over : ℕ = up past - dn past in
-    let upper = sum (reply .upper) (pos (w * longest claim)) in
-    let by = dif m (reply .upper) in
-    let from = dif m (pos over) in
-    record {
-      moment = m -ℤ pos over;
-      gained = over;
-      within = omega ints;
-      least-gained = omega arith;
-      most-gained = omega ints;
-      sum = omega (ints, sum (m -ℤ pos over) (pos over));
-    }
+bracket-moments claim w reply m order = (near-reached reply (longest claim) (w * longest claim) m order, near-within reply (longest claim) (w * longest claim) m)
+
+-- The told edges hold the moments from one of the edges through one longest tick after it, and no other.
+pub told-moments : (claim : ℕ) (edges : Interval) (m : ℤ) → edges .lower ≤ℤ edges .upper → Holds (told claim edges) m ↔ Near edges 0 (longest claim) m
+unfolding told
+told-moments claim edges m order =
+    let none = dif (edges .lower) (pos 0) in (
+      λ h. near-reached edges 0 (longest claim) m order (record { from = omega ints; through = h .through }),
+      λ c. (let h = near-within edges 0 (longest claim) m c in record { from = omega (ints, h .from); through = h .through }),
+    )
 
 -- nothing lies in a bracket and in edges that conflict with it
 pub none-in-both : (b edges : Interval) (m : ℤ) → conflicting b edges ≡ true → Holds b m → Holds edges m → ⊥
@@ -100,4 +126,6 @@ met-within b edges m h k = meet b edges m .0 (k, h)
 -- under mm the new edges hold the whole bracket
 pub adopted-holds : (claim w : ℕ) (reply : Interval) (m : ℤ) → Holds (bracket claim w reply) m → Holds (adopted (outward claim w) reply) m
 unfolding bracket adopted outward
-adopted-holds claim w reply m h = omega (ints, dif (reply .lower) (pos (w * longest claim)), sum (reply .upper) (pos (w * longest claim)))
+adopted-holds claim w reply m h =
+    let all = (w + 1) * longest claim in
+    omega (ints, one-more claim w, dif (reply .lower) (pos (longest claim)), sum (reply .upper) (pos (w * longest claim)), dif (reply .lower) (pos all), sum (reply .upper) (pos all))

@@ -1,6 +1,7 @@
--- The rules on edges: document 01, 'The calls', from MM-1, MM-2, IM-1 and IM-2 of the report. All numbers are integers here.
+-- The rules on edges: document 01, 'The calls', from MM-1, MM-2, IM-1 and IM-2 of the report, and document 02, order 5: a frame may arrive, or a
+-- reading leave, almost a whole tick after the last count. A keeper's edges are those at its last tick. All numbers are integers here.
 use mathlib.Core.Bool.{Bool, not}
-use Prim.Native.Nat.{ℕ, _*_}
+use Prim.Native.Nat.{ℕ, _+_, _*_}
 use lib.IntN.{ℤ, pos, _+ℤ_, _-ℤ_}
 use lib.Signed.{leZ}
 use Rattle.moment.specs.Moment.{shortest, longest, largerOf, smallerOf, floorHalf}
@@ -22,9 +23,10 @@ widened claim n edges = interval (edges .lower +ℤ pos (n * shortest claim)) (e
 abbrev pub longestWait : ℕ
 longestWait = 3600000
 
--- 'The bracket runs from TRAILING through LEADING + w times the longest tick.' w is the ticks since the request was sent.
+-- 'A bracket begins at TRAILING less one longest tick; its upper end is unchanged' (order 5), which is 'LEADING + w times the longest tick'. w is
+-- the ticks since the request was sent. The lower end may lie below the range.
 unfoldable pub bracket : ℕ → ℕ → Interval → Interval
-bracket claim w reply = interval (reply .lower) (reply .upper +ℤ pos (w * longest claim))
+bracket claim w reply = interval (reply .lower -ℤ pos (longest claim)) (reply .upper +ℤ pos (w * longest claim))
 
 -- 'If the bracket and the keeper's own edges share no moment'
 unfoldable pub conflicting : Interval → Interval → Bool
@@ -34,23 +36,24 @@ conflicting b edges = not (shareOne b edges)
 unfoldable pub narrowed : Interval → Interval → Interval
 narrowed b edges = interval (largerOf (b .lower) (edges .lower)) (smallerOf (b .upper) (edges .upper))
 
--- 'w times the longest tick': what rule mm moves each edge of a reply outward by (MM-2)
+-- What rule mm moves each edge of a reply outward by: 'w times the longest tick' (MM-2), and 'under mm the moves outward and the width test use
+-- w + 1 in place of w' (order 5)
 unfoldable pub outward : ℕ → ℕ → ℤ
-outward claim w = pos (w * longest claim)
+outward claim w = pos ((w + 1) * longest claim)
 
--- 'rule mm: if LEADING - TRAILING + 2 times w times the longest tick is at most UPPER - LOWER', where the span is the w longest ticks
+-- 'rule mm: if LEADING - TRAILING + 2 times w times the longest tick is at most UPPER - LOWER', where the span is that of the ticks (`outward`)
 unfoldable pub noWider : ℤ → Interval → Interval → Bool
 noWider span reply edges = leZ ((reply .upper -ℤ reply .lower) +ℤ (span +ℤ span)) (edges .upper -ℤ edges .lower)
 
--- 'the new edges are TRAILING and LEADING, each moved outward by w times the longest tick'
+-- 'the new edges are TRAILING and LEADING, each moved outward by w times the longest tick', by the same span
 unfoldable pub adopted : ℤ → Interval → Interval
 adopted span reply = interval (reply .lower -ℤ span) (reply .upper +ℤ span)
 
--- The edges that the read line tells: today the keeper's own.
+-- The edges that the read line and windows tell: 'UPPER plus one longest tick', and LOWER as it is. 'A told edge may pass the range by that tick.'
 unfoldable pub told : ℕ → Interval → Interval
-told claim edges = edges
+told claim edges = interval (edges .lower) (edges .upper +ℤ pos (longest claim))
 
--- 'CENTRE is the sum of the edges divided by 2, rounded toward minus infinity. ERROR is UPPER - CENTRE.'
+-- 'CENTRE is the sum of the edges divided by 2, rounded toward minus infinity. ERROR is UPPER - CENTRE.' Both are 'worked from the told edges'.
 unfoldable pub centre : Interval → ℤ
 centre edges = floorHalf (edges .lower +ℤ edges .upper)
 

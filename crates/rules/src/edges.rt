@@ -11,7 +11,7 @@ ghost use mathlib.Core.Path.{_≡_};
 ghost use mathlib.Core.Bool.{true};
 ghost use Prim.Native.Nat.{_≤_};
 ghost use Rattle.moment.specs.Intervals.{edgesWithin, placed};
-ghost use Rattle.rules.specs.Rules.{widened, longestWait, bracket, narrowed, outward, noWider, adopted, centre, errorOf};
+ghost use Rattle.rules.specs.Rules.{widened, longestWait, bracket, narrowed, outward, noWider, adopted, told, centre, errorOf};
 ghost use Rattle.rules.specs.Spans.{Span};
 
 // Pass: the lower edge gains the shortest ticks and the upper the longest.
@@ -23,16 +23,15 @@ pub fn widen(claim: u16, ticks: u32, edges: Interval) -> Bounds
     move_edges(edges, lower_by, upper_by)
 }
 
-// The bracket of a reply: its leading edge gains the wait.
+// The bracket of a reply: its leading edge gains the wait, and its trailing edge goes back by the tick that may have begun since the last count.
 pub fn bracket_of(claim: u16, w: u32, reply: Interval) -> Interval
     requires { ⌜ w ≤ longestWait ⌝ }
     requires { ⌜ edgesWithin reply ≡ true ⌝ }
     ensures { λ r. ⌜ r ≡ bracket claim w reply ⌝ }
 {
-    let span = longest_span(w, claim);
     Interval {
-        lower: reply.lower,
-        upper: reply.upper + span,
+        lower: reply.lower - longest_span(1, claim),
+        upper: reply.upper + longest_span(w, claim),
     }
 }
 
@@ -46,11 +45,11 @@ pub(crate) fn narrow(bracket: Interval, edges: Interval) -> Interval
     }
 }
 
-// Rule mm: how far the wait moves each edge of a reply.
+// Rule mm: how far the wait, and the tick that may have begun since, move each edge of a reply.
 pub fn outward_span(claim: u16, w: u32) -> i64
     ensures { λ r. ⌜ r ≡ outward claim w ⌝ }
 {
-    longest_span(w, claim)
+    longest_span(w, claim) + longest_span(1, claim)
 }
 
 // Rule mm: whether the reply, with the span on either side, is no wider than the edges.
@@ -76,17 +75,31 @@ pub(crate) fn adopt(span: i64, reply: Interval) -> Interval
     }
 }
 
-pub fn centre_of(edges: Interval) -> i64
+// What is told of a keeper's edges: a reading may leave almost a whole tick after the last count.
+pub fn told_of(claim: u16, edges: Interval) -> Interval
     requires { ⌜ edgesWithin edges ≡ true ⌝ }
-    ensures { λ r. ⌜ r ≡ centre edges ⌝ }
+    ensures { λ r. ⌜ r ≡ told claim edges ⌝ }
 {
-    floor_half(edges.lower + edges.upper)
+    Interval {
+        lower: edges.lower,
+        upper: edges.upper + longest_span(1, claim),
+    }
 }
 
-pub fn error_of(edges: Interval) -> i64
+// Centre and error are those of the told edges, from the keeper's own.
+pub fn centre_of(claim: u16, edges: Interval) -> i64
     requires { ⌜ edgesWithin edges ≡ true ⌝ }
-    ensures { λ r. ⌜ r ≡ errorOf edges ⌝ }
+    ensures { λ r. ⌜ r ≡ centre (told claim edges) ⌝ }
 {
-    let centre = centre_of(edges);
-    edges.upper - centre
+    let shown = told_of(claim, edges);
+    floor_half(shown.lower + shown.upper)
+}
+
+pub fn error_of(claim: u16, edges: Interval) -> i64
+    requires { ⌜ edgesWithin edges ≡ true ⌝ }
+    ensures { λ r. ⌜ r ≡ errorOf (told claim edges) ⌝ }
+{
+    let shown = told_of(claim, edges);
+    let centre = centre_of(claim, edges);
+    shown.upper - centre
 }

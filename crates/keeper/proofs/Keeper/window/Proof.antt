@@ -1,12 +1,13 @@
 -- `keeper::Keeper::window` meets its contract: the answer is the command's, and the keeper is handed back as it was.
-use mathlib.Core.Path.{sym}
+use mathlib.Core.Path.{sym, _∙_}
 use borrow.Author.Needs.{needs}
+use Rattle.keeper.proofs.StartedLaws.{started-read}
 use Rattle.keeper.proofs.WindowLaws.{window-applied}
 use Rattle.keeper.proofs.Keeper.window.Statement.{statement}
 use Rattle.keeper.proofs.Keeper.window.Tie as tie
 
 window-answer-requires : tie.Need-window-answer-requires
-window-answer-requires c κs = search needs
+window-answer-requires c κs on = started-read (c .args .self) (sym (c .pre) ∙ on) .edges
 
 returns : tie.Need-returns
 returns c =

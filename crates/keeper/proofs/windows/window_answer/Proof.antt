@@ -18,7 +18,7 @@ returns c =
     (sym (c .before .before .before .before .window-span .ensures) ∙ c .before .before .span .given .1)
 
 window-state-requires : tie.Need-window-state-requires
-window-state-requires c κs = search needs
+window-state-requires c κs = c .before .before .before .before .before .pre (not-false _ (c .if1 .left))
 
 enum-known-span-2 : tie.Need-enum-known-span-2
 enum-known-span-2 c = search needs
