@@ -148,14 +148,15 @@ fn write_drop(peer: u8, writer: &mut Writer) {
     writer.text(b")\n");
 }
 
-/// `(time (LOWER UPPER) (CENTRE ERROR) CONFLICTS WAITING)`
+/// `(time (LOWER UPPER) (CENTRE ERROR) CONFLICTS WAITING)` with the told edges
 fn write_time(keeper: &Keeper, writer: &mut Writer) {
-    // The sum of the edges is within 8 * 10^18 of 0 and fits. With the
+    let told = keeper.told();
+    // The sum of the edges is within 8.1 * 10^18 of 0 and fits. With the
     // positive divisor 2, Euclidean division rounds toward minus infinity.
-    let centre = (keeper.lower + keeper.upper).div_euclid(2);
-    let error = keeper.upper - centre;
+    let centre = (told.lower + told.upper).div_euclid(2);
+    let error = told.upper - centre;
     writer.text(b"(time ");
-    writer.interval(keeper.interval());
+    writer.interval(told);
     writer.text(b" (");
     writer.moment(centre);
     writer.text(b" ");
@@ -183,9 +184,10 @@ fn write_waiting(keeper: &Keeper, writer: &mut Writer) {
     writer.text(b")\n");
 }
 
-/// `(open SLOT)`, or the same with `shut` or `unsure`
+/// `(open SLOT)`, or the same with `shut` or `unsure`: "Windows use told
+/// edges."
 fn write_window(keeper: &Keeper, window: &Window, writer: &mut Writer) {
-    match window.state(keeper.interval()) {
+    match window.state(keeper.told()) {
         WindowState::Open => writer.text(b"(open "),
         WindowState::Shut => writer.text(b"(shut "),
         WindowState::Unsure => writer.text(b"(unsure "),

@@ -74,9 +74,8 @@ impl Keeper {
         if wait > MAX_WAIT {
             return Err(Refusal::Late);
         }
-        // At most 3600000 * 1050000, which is less than 4 * 10^12.
-        let longest_wait = wait as i64 * self.longest_tick();
-        let outcome = self.merge(reply.interval, longest_wait)?;
+        // At most 3600000, so the wait fits in i64 too.
+        let outcome = self.merge(reply.interval, wait as i64)?;
         self.end_request(reply.peer);
         Ok(outcome)
     }
@@ -90,39 +89,32 @@ impl Keeper {
         Ok(())
     }
 
-    /// Brings the peer's interval into the keeper's own. `longest_wait` is the
-    /// longest time in nanoseconds that the request may have been under way.
-    fn merge(&mut self, peer: Interval, longest_wait: i64) -> Result<Outcome, Refusal> {
-        // The bracket runs from peer.lower through this edge. It may lie above
-        // the range, but by less than 4 * 10^12.
-        let bracket_upper = peer.upper + longest_wait;
-        if peer.lower > self.upper || bracket_upper < self.lower {
+    /// Brings the peer's interval into the keeper's own. `wait` is the number
+    /// of ticks since the request was sent.
+    fn merge(&mut self, peer: Interval, wait: i64) -> Result<Outcome, Refusal> {
+        let Some(shared) = self.interval().shared_with(self.bracket(peer, wait)) else {
             self.conflicts += 1;
             return Ok(Outcome::Conflict);
-        }
+        };
         match self.rule {
             Rule::Im => {
-                self.lower = self.lower.max(peer.lower);
-                self.upper = self.upper.min(bracket_upper);
+                self.set_interval(shared);
                 Ok(Outcome::Taken)
             }
-            Rule::Mm => self.adopt(Interval {
-                lower: peer.lower - longest_wait,
-                upper: bracket_upper,
-            }),
+            Rule::Mm => self.adopt(self.moved_outward(peer, wait)),
         }
     }
 
-    /// Rule mm: takes the widened interval of the peer over if it is no wider
-    /// than the own. Each width is below 8.1 * 10^18.
-    fn adopt(&mut self, widened: Interval) -> Result<Outcome, Refusal> {
-        if widened.upper - widened.lower > self.upper - self.lower {
+    /// Rule mm: takes the peer's interval, moved outward, over if it is no
+    /// wider than the own at the last tick. Each width is below 8.1 * 10^18.
+    fn adopt(&mut self, moved: Interval) -> Result<Outcome, Refusal> {
+        if moved.width() > self.interval().width() {
             return Ok(Outcome::Kept);
         }
-        if !widened.is_valid() {
+        if !moved.is_valid() {
             return Err(Refusal::Overflow);
         }
-        self.set_interval(widened);
+        self.set_interval(moved);
         Ok(Outcome::Taken)
     }
 

@@ -14,4 +14,27 @@ impl Interval {
     pub fn is_valid(self) -> bool {
         MIN_MOMENT <= self.lower && self.lower <= self.upper && self.upper <= MAX_MOMENT
     }
+
+    /// Moves the lower edge down by `below` and the upper edge up by `above`.
+    /// The result may leave the range.
+    pub fn widened(self, below: i64, above: i64) -> Interval {
+        Interval {
+            lower: self.lower - below,
+            upper: self.upper + above,
+        }
+    }
+
+    pub fn width(self) -> i64 {
+        self.upper - self.lower
+    }
+
+    /// The moments that both intervals hold; `None` if there are none. One is
+    /// enough. The edges of both are in order.
+    pub fn shared_with(self, other: Interval) -> Option<Interval> {
+        let shared = Interval {
+            lower: self.lower.max(other.lower),
+            upper: self.upper.min(other.upper),
+        };
+        (shared.lower <= shared.upper).then_some(shared)
+    }
 }

@@ -8,7 +8,8 @@ use crate::limits::{BOARDS, MAX_CLAIM, MAX_REQUESTS, MAX_TICKS, NOMINAL_TICK};
 pub enum Rule {
     /// Intersection of the own interval and the bracket of the reply.
     Im,
-    /// Adoption of the peer's interval if it is no wider than the own.
+    /// Adoption of the peer's interval, moved outward, if it is no wider than
+    /// the own.
     Mm,
 }
 
@@ -19,7 +20,9 @@ pub struct Keeper {
     pub board: u8,
     pub rule: Rule,
     pub claim: u16,
+    /// Lower edge at the last tick.
     pub lower: i64,
+    /// Upper edge at the last tick.
     pub upper: i64,
     /// Ticks passed since the start.
     pub ticks: u64,
@@ -100,6 +103,7 @@ impl Keeper {
         self.waiting >> peer & 1 != 0
     }
 
+    /// The edges at the last tick.
     pub(crate) fn interval(&self) -> Interval {
         Interval {
             lower: self.lower,

@@ -1,7 +1,7 @@
 //! The board's time keeper: an interval of moments that is known to contain
-//! the true time, kept up to date from ticks of the board's counter and from
-//! replies of other boards. Also the calls that write a command as its line,
-//! and those that convert dates and moments.
+//! the true time of the last tick, kept up to date from ticks of the board's
+//! counter and from replies of other boards. Also the calls that write a
+//! command as its line, and those that convert dates and moments.
 //!
 //! Written from the specification alone. The library needs no heap and no
 //! operating system.
@@ -10,6 +10,7 @@
 #![forbid(unsafe_code)]
 
 mod answer;
+mod between_ticks;
 mod calendar;
 mod calls;
 mod command;

@@ -1,4 +1,4 @@
-//! The thirteen marked examples.
+//! The thirteen marked examples, "at claim 200 where it names none".
 
 use independent::Keeper;
 
@@ -21,9 +21,9 @@ fn the_whole_run() {
             ("(request 4)", "(sent 4 2)"),
             (
                 "(reply 4 2 (15002001 15002001))",
-                "(conflict 4 (14996000 15002000))",
+                "(taken 4 (14996000 15002000))",
             ),
-            ("(read)", "(time (14996000 15002000) (14999000 3000) 1 0)"),
+            ("(read)", "(time (14996000 16002200) (15499100 503100) 0 0)"),
             ("(pass 12x7)", "(no 1)"),
         ],
     );
@@ -31,15 +31,19 @@ fn the_whole_run() {
 
 #[test]
 fn halving_toward_minus_infinity() {
-    let mut keeper = after(&["(start 0 im 0 (-5 2))"]);
-    assert_eq!(ask(&mut keeper, "(read)"), "(time (-5 2) (-2 4) 0 0)");
+    // The told edges are -5 and 1000202, and half their sum is 500098.5.
+    let mut keeper = after(&["(start 0 im 200 (-5 2))"]);
+    let answer = ask(&mut keeper, "(read)");
+    assert_eq!(answer, "(time (-5 1000202) (500098 500104) 0 0)");
 }
 
 #[test]
-fn equal_widths_are_taken_under_mm() {
+fn equal_widths_without_the_tick_are_kept_under_mm() {
+    // Both widths are 8000, and one tick at either edge adds 2000400 to that of
+    // the reply.
     let mut keeper = after(&["(start 3 mm 200 (14996000 15004000))", "(request 4)"]);
     let answer = ask(&mut keeper, "(reply 4 1 (14997000 15005000))");
-    assert_eq!(answer, "(taken 4 (14997000 15005000))");
+    assert_eq!(answer, "(kept 4 (14996000 15004000))");
 }
 
 #[test]

@@ -183,9 +183,9 @@ fn the_answers_are_plain() {
             ("(request 4)", "(sent 4 2)"),
             (
                 "(reply 4 2 (15_002_001 15002001))",
-                "(conflict 4 (14996000 15002000))",
+                "(taken 4 (14996000 15002000))",
             ),
-            ("(read)", "(time (14996000 15002000) (14999000 3000) 1 0)"),
+            ("(read)", "(time (14996000 16002200) (15499100 503100) 0 0)"),
             ("(pass 12_7)", "(no 1)"),
             ("(pass 1_000)", "(at 1015 (1014796000 1015202000))"),
             ("(pass 1000)", "(at 2015 (2014596000 2015402000))"),
@@ -201,7 +201,8 @@ fn the_longest_numerals_of_a_keeper() {
     let edge = "4_000_000_000_000_000_000";
     let start = format!("(start 15 mm 50_000 (-{edge} {edge}))");
     assert_eq!(ask(&mut keeper, start), "(started 15)");
-    let answer = "(time (-4000000000000000000 4000000000000000000) (0 4000000000000000000) 0 0)";
+    let answer = "(time (-4000000000000000000 4000000000001050000) \
+        (525000 4000000000000525000) 0 0)";
     assert_eq!(ask(&mut keeper, "(read)"), answer);
     keeper.requests = 16_777_214;
     assert_eq!(ask(&mut keeper, "(request 14)"), "(sent 14 16777215)");
@@ -210,7 +211,7 @@ fn the_longest_numerals_of_a_keeper() {
         ("(reply 14 16_777_214 (0 0))", "(no 7)"),
         (
             "(reply 14 16_777_215 (-1_000_000 999_999))",
-            "(taken 14 (-1000000 999999))",
+            "(taken 14 (-2050000 2049999))",
         ),
     ] {
         assert_eq!(ask(&mut keeper, line), answer);

@@ -81,7 +81,8 @@ fn edges_of_start() {
             ),
             (
                 "(read)",
-                "(time (-4000000000000000000 4000000000000000000) (0 4000000000000000000) 0 0)",
+                "(time (-4000000000000000000 4000000000001000000) \
+                (500000 4000000000000500000) 0 0)",
             ),
         ],
     );
@@ -201,11 +202,12 @@ fn adoption_at_the_upper_end_of_the_range() {
         "(pass 1)",
     ];
     let mut keeper = after(&lines);
-    let reply = "(reply 1 1 (3999999999999000000 3999999999999000001))";
+    // Each edge moves outward by two ticks.
+    let reply = "(reply 1 1 (3999999999998000000 3999999999998000001))";
     assert_eq!(ask(&mut keeper, reply), "(no 5)");
     assert_eq!(ask(&mut keeper, "(waiting)"), "(waiting (1 1))");
-    let reply = "(reply 1 1 (3999999999998999999 3999999999999000000))";
-    let answer = "(taken 1 (3999999999997999999 4000000000000000000))";
+    let reply = "(reply 1 1 (3999999999997999999 3999999999998000000))";
+    let answer = "(taken 1 (3999999999995999999 4000000000000000000))";
     assert_eq!(ask(&mut keeper, reply), answer);
 }
 
@@ -217,10 +219,11 @@ fn adoption_at_the_lower_end_of_the_range() {
         "(pass 1)",
     ];
     let mut keeper = after(&lines);
-    let reply = "(reply 1 1 (-3999999999999000001 -3999999999999000001))";
+    // Each edge moves outward by two ticks.
+    let reply = "(reply 1 1 (-3999999999998000001 -3999999999998000001))";
     assert_eq!(ask(&mut keeper, reply), "(no 5)");
-    let reply = "(reply 1 1 (-3999999999999000000 -3999999999999000000))";
-    let answer = "(taken 1 (-4000000000000000000 -3999999999998000000))";
+    let reply = "(reply 1 1 (-3999999999998000000 -3999999999998000000))";
+    let answer = "(taken 1 (-4000000000000000000 -3999999999996000000))";
     assert_eq!(ask(&mut keeper, reply), answer);
 }
 
@@ -233,7 +236,7 @@ fn the_bracket_may_end_above_the_range_under_im() {
     ];
     let mut keeper = after(&lines);
     let reply = "(reply 1 1 (3999999999995000000 4000000000000000000))";
-    let answer = "(taken 1 (3999999999995000000 4000000000000000000))";
+    let answer = "(taken 1 (3999999999994000000 4000000000000000000))";
     assert_eq!(ask(&mut keeper, reply), answer);
 }
 
@@ -241,8 +244,8 @@ fn the_bracket_may_end_above_the_range_under_im() {
 fn one_shared_moment_at_either_end() {
     let start = ["(start 0 im 0 (10 20))", "(request 1)"];
     for (reply, answer) in [
-        ("(reply 1 1 (20 30))", "(taken 1 (20 20))"),
-        ("(reply 1 1 (21 30))", "(conflict 1 (10 20))"),
+        ("(reply 1 1 (1000020 1000030))", "(taken 1 (20 20))"),
+        ("(reply 1 1 (1000021 1000030))", "(conflict 1 (10 20))"),
         ("(reply 1 1 (0 10))", "(taken 1 (10 10))"),
         ("(reply 1 1 (0 9))", "(conflict 1 (10 20))"),
     ] {
@@ -253,15 +256,26 @@ fn one_shared_moment_at_either_end() {
 #[test]
 fn the_widest_keeper_under_mm() {
     let start = "(start 0 mm 50000 (-4000000000000000000 4000000000000000000))";
-    let mut keeper = after(&[start, "(request 1)"]);
-    let answer = ask(
-        &mut keeper,
-        "(reply 1 1 (-4000000000000000000 4000000000000000000))",
-    );
-    assert_eq!(
-        answer,
-        "(taken 1 (-4000000000000000000 4000000000000000000))"
-    );
+    let taken = "(taken 1 (-4000000000000000000 4000000000000000000))";
+    let kept = "(kept 1 (-4000000000000000000 4000000000000000000))";
+    for (reply, answer) in [
+        // One tick less at either edge than the keeper has.
+        (
+            "(reply 1 1 (-3999999999998950000 3999999999998950000))",
+            taken,
+        ),
+        (
+            "(reply 1 1 (-3999999999998950000 3999999999998950001))",
+            kept,
+        ),
+        (
+            "(reply 1 1 (-4000000000000000000 4000000000000000000))",
+            kept,
+        ),
+    ] {
+        let mut keeper = after(&[start, "(request 1)"]);
+        assert_eq!(ask(&mut keeper, reply), answer, "{reply}");
+    }
 
     // With the longest wait the peer's width is the largest that can occur.
     let mut keeper = after(&[start, "(request 1)"]);
@@ -271,10 +285,7 @@ fn the_widest_keeper_under_mm() {
         &mut keeper,
         "(reply 1 1 (-4000000000000000000 4000000000000000000))",
     );
-    assert_eq!(
-        answer,
-        "(kept 1 (-4000000000000000000 4000000000000000000))"
-    );
+    assert_eq!(answer, kept);
 }
 
 #[test]
@@ -295,7 +306,7 @@ fn the_longest_answers() {
     ));
 
     keeper.conflicts = 16_777_200;
-    let answer = "(time (-3999999999999999999 -3999999999999999998) \
-        (-3999999999999999999 1) 16777200 15)";
+    let answer = "(time (-3999999999999999999 -3999999999998999998) \
+        (-3999999999999499999 500001) 16777200 15)";
     assert_eq!(ask(&mut keeper, "(read)"), answer);
 }

@@ -1,5 +1,6 @@
 //! Tests of the time keeper against the specification.
 
+mod between_ticks;
 mod caller;
 mod dates;
 mod examples;
@@ -19,6 +20,7 @@ mod reference;
 mod refusals;
 mod round_trips;
 mod shapes;
+mod true_time;
 mod windows;
 mod words;
 mod written_forms;

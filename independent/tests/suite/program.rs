@@ -39,7 +39,7 @@ fn the_whole_run() {
         (reply 4 2 (15002001 15002001))\n(read)\n(pass 12x7)\n",
         "(started 3)\n(at 10 (9997000 10003000))\n(sent 4 1)\n(at 15 (14996000 15004000))\n\
         (taken 4 (14996000 15002000))\n(no 7)\n(sent 4 2)\n\
-        (conflict 4 (14996000 15002000))\n(time (14996000 15002000) (14999000 3000) 1 0)\n\
+        (taken 4 (14996000 15002000))\n(time (14996000 16002200) (15499100 503100) 0 0)\n\
         (no 1)\n",
     );
 }
@@ -50,7 +50,7 @@ fn grouped_digits() {
         b"(start 3 im 200 (-1_000 1000))\n(pass 1_000)\n(pass 12_7)\n(pass 86_400_001)\n\
         (request 1_000)\n(pass 1000_000)\n(pass _100)\n(read)\n",
         "(started 3)\n(at 1000 (999799000 1000201000))\n(no 1)\n(no 2)\n(no 2)\n(no 1)\n\
-        (no 1)\n(time (999799000 1000201000) (1000000000 201000) 0 0)\n",
+        (no 1)\n(time (999799000 1001201200) (1000500100 701100) 0 0)\n",
     );
 }
 
@@ -76,7 +76,7 @@ fn empty_and_unfinished_lines() {
     assert_run(b"(read)", "(no 3)\n");
     assert_run(
         b"(start 1 im 0 (0 0))\n(read)",
-        "(started 1)\n(time (0 0) (0 0) 0 0)\n",
+        "(started 1)\n(time (0 1000000) (500000 500000) 0 0)\n",
     );
     assert_run(b"(read)\r\n", "(no 1)\n");
 }
@@ -101,7 +101,8 @@ fn lines_across_blocks() {
     for length in 65_500..65_540 {
         let mut input = vec![b'x'; length];
         input.extend_from_slice(b"\n(start 1 im 0 (0 0))\n(read)\n");
-        assert_run(&input, "(no 1)\n(started 1)\n(time (0 0) (0 0) 0 0)\n");
+        let read = "(time (0 1000000) (500000 500000) 0 0)";
+        assert_run(&input, &format!("(no 1)\n(started 1)\n{read}\n"));
     }
 }
 
@@ -143,7 +144,7 @@ fn answers_are_written_before_the_next_read() {
     for (input, answer) in [
         (&b"(start 1 im 0 (0 0))\n"[..], "(started 1)\n"),
         (b"(pass 1)\n(re", "(at 1 (1000000 1000000))\n"),
-        (b"ad)\n", "(time (1000000 1000000) (1000000 0) 0 0)\n"),
+        (b"ad)\n", "(time (1000000 2000000) (1500000 500000) 0 0)\n"),
     ] {
         stdin.write_all(input).expect("the program reads");
         let mut bytes = vec![0; answer.len()];

@@ -21,7 +21,7 @@ impl Random {
         self.next() % limit
     }
 
-    fn pick<T: Copy>(&mut self, choices: &[T]) -> T {
+    pub fn pick<T: Copy>(&mut self, choices: &[T]) -> T {
         choices[self.below(choices.len() as u64) as usize]
     }
 }
@@ -98,17 +98,19 @@ fn expected_reply(keeper: &Keeper, peer: usize, trailing: i64, leading: i64) -> 
     if wait > 3_600_000 {
         return "(no 8)".into();
     }
-    let (from, through) = (lower.max(trailing), upper.min(leading + wait * longest));
+    let from = lower.max(trailing - longest);
+    let through = upper.min(leading + wait * longest);
     if from > through {
         return format!("(conflict {peer} ({lower} {upper}))");
     }
     if keeper.rule == Rule::Im {
         return format!("(taken {peer} ({from} {through}))");
     }
-    if leading - trailing + 2 * wait * longest > upper - lower {
+    let outward = (wait + 1) * longest;
+    if leading - trailing + 2 * outward > upper - lower {
         return format!("(kept {peer} ({lower} {upper}))");
     }
-    let (from, through) = (trailing - wait * longest, leading + wait * longest);
+    let (from, through) = (trailing - outward, leading + outward);
     if !range.contains(&from) || !range.contains(&through) {
         return "(no 5)".into();
     }
@@ -121,6 +123,7 @@ fn random_interval(random: &mut Random, centre: i64) -> (i64, i64) {
         1,
         3,
         1_000_000,
+        6_000_000,
         8_000_000_000_000,
         7_000_000_000_000_000_000,
     ]);
@@ -193,6 +196,29 @@ fn random_passes() {
 }
 
 #[test]
+fn random_reads() {
+    let mut random = Random(0x7EAD_0F7E_AD0F_0001);
+    let end = 4_000_000_000_000_000_000;
+    let mut above_the_range = 0;
+    for _ in 0..20_000 {
+        let mut keeper = Keeper::fresh();
+        keeper.started = true;
+        keeper.claim = random.below(50_001) as u16;
+        let centre = random.pick(&[0, 1_000_000, -1_000_000, end, -end]);
+        (keeper.lower, keeper.upper) = random_interval(&mut random, centre);
+        let lower = i128::from(keeper.lower);
+        let upper = i128::from(keeper.upper) + 1_000_000 + i128::from(keeper.claim);
+        // The largest number of which the double is at most the sum.
+        let centre = (lower + upper) >> 1;
+        let error = upper - centre;
+        let expected = format!("(time ({lower} {upper}) ({centre} {error}) 0 0)");
+        assert_eq!(ask(&mut keeper, "(read)"), expected);
+        above_the_range += u32::from(upper > i128::from(end));
+    }
+    assert!(above_the_range > 1000, "{above_the_range}");
+}
+
+#[test]
 fn random_numerals() {
     let mut random = Random(77);
     for _ in 0..20_000 {
@@ -202,9 +228,10 @@ fn random_numerals() {
         let line = format!("(start 0 im 0 ({edge} {edge}))");
         let mut keeper = Keeper::fresh();
         ask(&mut keeper, grouped_line(&line, random.next() as u32));
+        let (upper, centre) = (edge + 1_000_000, edge + 500_000);
         assert_eq!(
             ask(&mut keeper, "(read)"),
-            format!("(time ({edge} {edge}) ({edge} 0) 0 0)")
+            format!("(time ({edge} {upper}) ({centre} 500000) 0 0)")
         );
     }
 }

@@ -82,7 +82,7 @@ fn number_8_between_7_and_the_conflict_test() {
             ("(reply 1 1 (-9 -9))", "(no 8)"),
             (
                 "(read)",
-                "(time (3600001000000 3600001000000) (3600001000000 0) 0 1)",
+                "(time (3600001000000 3600002000000) (3600001500000 500000) 0 1)",
             ),
             // A late reply does not keep the request from being dropped.
             ("(drop 1)", "(dropped 1)"),
@@ -161,21 +161,19 @@ fn shortest_output() {
 
 #[test]
 fn conflicts_end_the_request_and_are_counted() {
-    let mut keeper = after(&["(start 0 mm 0 (0 0))", "(request 1)", "(request 2)"]);
+    let start = "(start 0 mm 0 (0 2000000))";
+    let mut keeper = after(&[start, "(request 1)", "(request 2)"]);
     expect(
         &mut keeper,
         &[
-            ("(reply 1 1 (1 1))", "(conflict 1 (0 0))"),
-            ("(read)", "(time (0 0) (0 0) 1 1)"),
-            ("(reply 1 1 (1 1))", "(no 7)"),
-            ("(reply 2 2 (-1 -1))", "(conflict 2 (0 0))"),
-            ("(read)", "(time (0 0) (0 0) 2 0)"),
-            ("(pass 1)", "(at 1 (1000000 1000000))"),
+            ("(reply 1 1 (3000001 3000001))", "(conflict 1 (0 2000000))"),
+            ("(read)", "(time (0 3000000) (1500000 1500000) 1 1)"),
+            ("(reply 1 1 (3000001 3000001))", "(no 7)"),
+            ("(reply 2 2 (-1 -1))", "(conflict 2 (0 2000000))"),
+            ("(read)", "(time (0 3000000) (1500000 1500000) 2 0)"),
+            ("(pass 1)", "(at 1 (1000000 3000000))"),
             ("(request 1)", "(sent 1 3)"),
-            (
-                "(reply 1 3 (1000000 1000000))",
-                "(taken 1 (1000000 1000000))",
-            ),
+            ("(reply 1 3 (1000000 1000000))", "(taken 1 (0 2000000))"),
         ],
     );
 }

@@ -10,6 +10,9 @@ use crate::order::{samples, spelled, written, Order, END};
 use crate::random::Random;
 use crate::reference::{grouped_line, moment};
 
+/// Every tick of a keeper whose claim is 0.
+const TICK: i64 = 1_000_000;
+
 /// A keeper of another board than `peer`, with edges that cover the range.
 fn wide(peer: u64) -> Keeper {
     let mut keeper = Keeper::fresh();
@@ -31,12 +34,19 @@ fn check_reading(order: Order, line: &str) {
             (keeper, format!("(at {ticks} ({edge} {edge}))"))
         }
         Order::Request(peer) => (wide(peer), format!("(sent {peer} 1)")),
-        Order::Reply(peer, tag, trailing, leading) => (
-            waiting_for(peer, tag as u32),
-            format!("(taken {peer} ({trailing} {leading}))"),
-        ),
+        Order::Reply(peer, tag, trailing, leading) => {
+            // Of trailing edges in the first tick of the range only the width
+            // and the plain spelling tell which one was read.
+            let lower = (trailing - TICK).max(-END);
+            let answer = format!("(taken {peer} ({lower} {leading}))");
+            (waiting_for(peer, tag as u32), answer)
+        }
         Order::Drop(peer) => (waiting_for(peer, 1), format!("(dropped {peer})")),
-        Order::Read => (wide(0), format!("(time ({} {END}) (0 {END}) 0 0)", -END)),
+        Order::Read => {
+            let (lower, upper, half) = (-END, END + TICK, TICK / 2);
+            let answer = format!("(time ({lower} {upper}) ({half} {}) 0 0)", END + half);
+            (wide(0), answer)
+        }
         Order::Waiting => (waiting_for(5, 9), "(waiting (5 9))".into()),
         Order::Window(slot, start, end) => return check_window(slot, start, end, line),
     };
@@ -55,23 +65,28 @@ fn check_reading(order: Order, line: &str) {
     }
 }
 
-/// Four single moments beside the ends of the window tell both of them.
+/// Told edges beside the ends of the window tell both of them. No window is
+/// shorter than a second, so it has room for the tick that is told.
 fn check_window(slot: u64, start: [u64; 6], end: [u64; 6], line: &str) {
     let (start, end) = (moment(start), moment(end));
-    for (edge, word) in [
-        (start - 1, "shut"),
-        (start, "open"),
-        (end - 1, "open"),
-        (end, "shut"),
+    for (lower, told_upper, word) in [
+        (start - 1 - TICK, start - 1, "shut"),
+        (start - TICK, start, "unsure"),
+        (start - 1, end - 1, "unsure"),
+        (start, end - 1, "open"),
+        (start, end, "unsure"),
+        (end - 1, end - 1 + TICK, "unsure"),
+        (end, end + TICK, "shut"),
     ] {
         let mut keeper = wide(0);
-        (keeper.lower, keeper.upper) = (edge, edge);
+        (keeper.lower, keeper.upper) = (lower, told_upper - TICK);
         assert_eq!(ask(&mut keeper, line), format!("({word} {slot})"), "{line}");
     }
 }
 
 /// A wide keeper with one request waiting. Under rule im, and with no tick
-/// since the request, it takes over the edges of the reply.
+/// since the request, it takes over the leading edge of the reply, and the
+/// trailing one less a tick.
 fn waiting_for(peer: u64, tag: u32) -> Keeper {
     let mut keeper = wide(peer);
     keeper.requests = tag;
