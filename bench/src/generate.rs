@@ -13,6 +13,8 @@ const SEED: u64 = 20_260_101;
 /// The board of `START`.
 const BOARD: u64 = 3;
 const PEERS: u64 = 16;
+/// One tick by the claim of `START`.
+const LONGEST_TICK: i64 = 1_000_200;
 /// Edges some 26 years from the epoch, so that numerals are as long as in
 /// service.
 const START: &str = "(start 3 im 200 (820000000000000000 820000000000002000))";
@@ -128,7 +130,8 @@ impl Input {
         let (lower, upper) = (self.keeper.lower, self.keeper.upper);
         let near = self.random.below(1000) as i64;
         let (trailing, leading) = if self.random.below(10) == 0 {
-            (upper + 1 + near, upper + 2000)
+            let end = upper + LONGEST_TICK;
+            (end + 1 + near, end + 2000)
         } else {
             let trailing = (lower + near).min(upper);
             (trailing, (upper - near).max(trailing))

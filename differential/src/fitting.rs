@@ -148,9 +148,11 @@ fn peer(random: &mut Random, keeper: &Keeper) -> usize {
 
 fn replied_edges(random: &mut Random, keeper: &Keeper, peer: usize) -> (i128, i128) {
     let waited = keeper.ticks.wrapping_sub(keeper.sent_at[peer % PEERS]);
+    let tick = longest_tick(keeper);
     // A keeper that does not count as started may hold any numbers; there the
     // edges only have to be some numbers.
-    let moved = i128::from(waited.min(u64::from(LAST_TAG))) * longest_tick(keeper);
+    let moved = i128::from(waited.min(u64::from(LAST_TAG))) * tick;
+    let outward = moved + tick;
     let (lower, upper) = (i128::from(keeper.lower), i128::from(keeper.upper));
     let width = upper.saturating_sub(lower).max(0);
     let by_one = i128::from(random.between(-1, 1));
@@ -159,22 +161,22 @@ fn replied_edges(random: &mut Random, keeper: &Keeper, peer: usize) -> (i128, i1
         // Within the own edges.
         0..=1 => (lower + some % (width + 1), upper),
         // The bracket begins at, just before or just after the upper edge.
-        2 => (upper + by_one, upper + by_one + some),
+        2 => (upper + tick + by_one, upper + tick + by_one + some),
         // The bracket ends at, just before or just after the lower edge.
         3 => (lower - moved + by_one - some, lower - moved + by_one),
-        // As wide as the own edges after the wait, or one more or less.
+        // As wide as the own edges when moved outward, or one more or less.
         4..=5 => {
             let trailing = lower - by_one + some % (width + 1);
-            (trailing, trailing + width - 2 * moved + by_one)
+            (trailing, trailing + width - 2 * outward + by_one)
         }
         // Adoption takes an edge to the end of the range, or one past it.
         6 => {
-            let trailing = moved + by_one - i128::from(LAST_MOMENT);
-            (trailing, trailing + some % (width - 2 * moved).max(1))
+            let trailing = outward + by_one - i128::from(LAST_MOMENT);
+            (trailing, trailing + some % (width - 2 * outward).max(1))
         }
         7 => {
-            let leading = i128::from(LAST_MOMENT) - moved + by_one;
-            (leading - some % (width - 2 * moved).max(1), leading)
+            let leading = i128::from(LAST_MOMENT) - outward + by_one;
+            (leading - some % (width - 2 * outward).max(1), leading)
         }
         8 => (lower - some, upper + some),
         _ => (lower + some, upper - some),
@@ -217,7 +219,8 @@ fn window(random: &mut Random, keeper: &Keeper) -> String {
     Command::Window { slot, start, end }.to_string()
 }
 
-/// Mostly a date of a second about an edge of the keeper.
+/// Mostly a date of a second about an edge of the keeper. A told edge is less
+/// than that away from it.
 fn date(random: &mut Random, keeper: &Keeper) -> Date {
     let edge = random.pick(&[keeper.lower, keeper.upper]);
     let last = random.pick(&[1, 2, 60, 100_000, 100_000_000]);

@@ -10,6 +10,7 @@
 #![forbid(unsafe_code)]
 
 mod answer;
+mod bracketing;
 mod convert;
 mod date;
 mod fitting;

@@ -1,6 +1,7 @@
 //! What a run has counted, and whether it reached enough of everything.
 
 use crate::answer::word;
+use crate::bracketing::BracketTally;
 use crate::convert::ConvertTally;
 use crate::limits::LAST_PASS;
 use crate::program::ProgramTally;
@@ -52,6 +53,7 @@ pub struct Tally {
     freshes: Numbers,
     pub spellings: SpellingTally,
     pub touching: TouchTally,
+    pub bracketing: BracketTally,
     pub conversions: ConvertTally,
     pub writes: WriteTally,
     pub program: ProgramTally,
@@ -69,6 +71,7 @@ impl Tally {
             freshes: [0; 256],
             spellings: SpellingTally::new(),
             touching: TouchTally::default(),
+            bracketing: BracketTally::default(),
             conversions: ConvertTally::new(),
             writes: WriteTally::new(),
             program: ProgramTally::new(),
@@ -153,6 +156,7 @@ impl Tally {
         }
         self.spellings.print();
         self.touching.print();
+        self.bracketing.print();
         self.program.print();
     }
 
@@ -180,6 +184,7 @@ impl Tally {
         }
         missing.extend(self.spellings.missing(ENOUGH));
         missing.extend(self.touching.missing(ENOUGH));
+        missing.extend(self.bracketing.missing(ENOUGH));
         missing.extend(self.conversions.missing(ENOUGH));
         missing.extend(self.writes.missing(ENOUGH));
         missing.extend(self.program.missing(ENOUGH));

@@ -1,12 +1,12 @@
-//! How often an edge of a keeper lay at the start or the end of a window, or one
-//! nanosecond from it.
+//! How often an edge that is told of a keeper lay at the start or the end of a
+//! window, or one nanosecond from it.
 
 const LIMITS: [&str; 2] = ["start", "end"];
 const EDGES: [&str; 2] = ["lower", "upper"];
 const PLACES: [&str; 3] = ["one nanosecond before", "at", "one nanosecond after"];
 
-/// The moments at which a window's start and end begin, and the edges of the
-/// keeper that is asked.
+/// The moments at which a window's start and end begin, and the edges that are
+/// told of the keeper that is asked.
 pub struct Moments {
     pub limits: [i64; LIMITS.len()],
     pub edges: [i64; EDGES.len()],
@@ -45,7 +45,7 @@ impl TouchTally {
     }
 
     pub fn print(&self) {
-        println!("answered windows by the place of an edge:");
+        println!("answered windows by the place of a told edge:");
         for (place, count) in self.places() {
             println!("  {count:>8}  {place}");
         }

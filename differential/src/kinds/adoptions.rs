@@ -20,8 +20,8 @@ fn adopt(test: &mut Test, random: &mut Random) {
     let claim = random.between(0, i64::from(LAST_CLAIM));
     let (shortest, longest) = (1_000_000 - claim, 1_000_000 + claim);
     let wait = random.between(0, 3_600_000);
-    let moved = wait * longest;
-    // Wide enough for a bracket that the wait widens on both sides.
+    let moved = (wait + 1) * longest;
+    // Wide enough for a reply that is moved outward on both sides.
     let first_width = 2 * moved + random.between(0, 1_000_000_000);
     let width = first_width + wait * (longest - shortest);
 

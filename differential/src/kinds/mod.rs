@@ -1,6 +1,7 @@
 //! The kinds of cases.
 
 mod adoptions;
+mod brackets;
 mod bytes;
 mod damage;
 mod dates;
@@ -35,4 +36,5 @@ pub fn run_all(test: &mut Test) {
     writes::run(test);
     windows::run(test);
     dates::run(test);
+    brackets::run(test);
 }

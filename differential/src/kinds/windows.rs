@@ -1,4 +1,5 @@
-//! Windows about the edges of a keeper, and windows of dates at every limit.
+//! Windows about the edges that are told of a keeper, and windows of dates at
+//! every limit.
 
 use super::dates::{some_date, NUMBERS};
 use super::states;
@@ -29,11 +30,14 @@ fn at_edges(test: &mut Test) {
     }
 }
 
-/// A keeper with edges at the ends of a window or about them.
+/// A keeper whose told edges are at the ends of a window or about them.
 fn at_an_edge(test: &mut Test, random: &mut Random) {
     let limits = limits(random);
-    let edges = edges(random, limits);
-    let mut image = started(test, random, edges);
+    let claim = random.pick(&[0, 1, 200, i64::from(LAST_CLAIM)]);
+    let tick = 1_000_000 + claim;
+    let edges = told_edges(random, limits, tick);
+    let [lower, told] = edges;
+    let mut image = started(test, random, claim, [lower, told - tick]);
     let window = Command::Window {
         slot: random.place(SLOTS) as u64,
         start: Date::near(limits[0]),
@@ -65,6 +69,21 @@ fn limits(random: &mut Random) -> [i64; 2] {
     [from, until.min(last)].map(|second| second * SECOND)
 }
 
+/// Edges at these moments or about them that can be told: they are at least one
+/// longest tick apart.
+fn told_edges(random: &mut Random, limits: [i64; 2], tick: i64) -> [i64; 2] {
+    let [lower, upper] = edges(random, limits);
+    if upper - lower >= tick {
+        return [lower, upper];
+    }
+    let edge = random.pick(&[lower, upper]);
+    if random.one_in(2) {
+        [edge, edge + tick]
+    } else {
+        [edge - tick, edge]
+    }
+}
+
 /// Edges, in order, each at one of these moments or about it.
 fn edges(random: &mut Random, [start, end]: [i64; 2]) -> [i64; 2] {
     let mut edge = || {
@@ -81,8 +100,7 @@ fn edges(random: &mut Random, [start, end]: [i64; 2]) -> [i64; 2] {
 }
 
 /// A keeper that has these edges. If they are wide enough, a pass takes it there.
-fn started(test: &mut Test, random: &mut Random, [lower, upper]: [i64; 2]) -> Image {
-    let claim = random.pick(&[0, 1, 200, i64::from(LAST_CLAIM)]);
+fn started(test: &mut Test, random: &mut Random, claim: i64, [lower, upper]: [i64; 2]) -> Image {
     let ticks = random.pick(&[0, 1, 1000]);
     let start = |lower, upper| format!("(start 3 im {claim} ({lower} {upper}))");
     let first = lower - ticks * (1_000_000 - claim);

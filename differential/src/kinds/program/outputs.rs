@@ -40,10 +40,12 @@ fn fill(input: &mut Input, bytes: usize) {
     while rest > MOST_LEFT {
         rest -= input.line("(waiting)");
     }
-    // The answer to an empty line has 7 bytes, and that to a read has 34, one
-    // less than five times as many: so many reads leave a multiple of 7.
-    for _ in 0..(7 - rest % 7) % 7 {
-        rest -= input.line("(read)");
+    // The answer to an empty line has 7 bytes, and that to a read has 44, which
+    // is no multiple of 7: at most six reads leave one.
+    for _ in 0..6 {
+        if rest % 7 != 0 {
+            rest -= input.line("(read)");
+        }
     }
     assert_eq!(rest % 7, 0);
     for _ in 0..rest / 7 {
