@@ -69,6 +69,15 @@
  * own too, holds 0 for both. A keeper that counts as not started accepts
  * `(start ...)` alone.
  *
+ * The edges of an image, and those in the answers to a pass and to a reply,
+ * are those at the last tick that was passed. `(read)` tells the upper edge
+ * with one longest tick more (1000000 ns and the claim), and `(window ...)`
+ * goes by the same edges, since less than a whole tick may have passed since:
+ * what is told may be above 4000000000000000000 by that tick. A reply may be
+ * given at any moment between two ticks, once all ticks that were counted are
+ * passed. Its TRAILING and LEADING are edges that held the true time when the
+ * peer sent them, as those that the peer's own `(read)` tells.
+ *
  * A board may keep the image in FRAM and go on with it after a reset. It then
  * owes the keeper the ticks that passed meanwhile: without them the edges need
  * no longer hold the true time. A reset in the middle of a call may leave an

@@ -85,7 +85,7 @@ int main(void)
     reply(4, 1, 9999000, 10001000);
     request(4);
     answer(boardtime_write_waiting(line, sizeof line));
-    reply(4, 2, 15002001, 15002001);
+    reply(4, 2, 16002201, 16002201);
     read_time();
     answer_line((const uint8_t *)damaged, sizeof damaged - 1);
     pass_by_number(86400001);

@@ -22,8 +22,8 @@ const FIRST_REPLY: Command = Command::Reply {
 const SECOND_REPLY: Command = Command::Reply {
     peer: 4,
     tag: 2,
-    trailing: 15_002_001,
-    leading: 15_002_001,
+    trailing: 16_002_201,
+    leading: 16_002_201,
 };
 
 fn answer_line(keeper: &mut Keeper, line: &[u8]) {

@@ -89,6 +89,11 @@ impl Keeper {
     /// of `out` after the answer is touched. A refused line leaves the keeper
     /// as it was.
     ///
+    /// The edges of a keeper, and those in the answers to a pass and to a reply,
+    /// are those at the last tick that was passed. `(read)` tells the upper edge
+    /// with one longest tick more, and `(window ...)` goes by the same edges,
+    /// since less than a whole tick may have passed since.
+    ///
     /// A numeral of a line has 1 to 19 digits, and the first of two or more is
     /// not 0. It is plain, without any `_`, or grouped, with one `_` between
     /// every two groups of three digits, counted from the right. Only an edge

@@ -335,7 +335,7 @@ fn written_lines_are_answered() {
         (Command::Drop { peer: 4 }, "(no 7)\n"),
         (
             Command::Read,
-            "(time (9997000 10001000) (9999000 2000) 0 0)\n",
+            "(time (9997000 11001200) (10499100 502100) 0 0)\n",
         ),
         (window(7, FIRST, LAST), "(open 7)\n"),
     ] {
