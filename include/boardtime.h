@@ -71,8 +71,8 @@
  *
  * The edges of an image, and those in the answers to a pass and to a reply,
  * are those at the last tick that was passed. `(read)` tells the upper edge
- * with one longest tick more (1000000 ns and the claim), and `(window ...)`
- * goes by the same edges, since less than a whole tick may have passed since:
+ * with one longest tick more (1000000 ns plus the claim), and `(window ...)`
+ * goes by the same edges, since almost a whole tick may have gone by since then:
  * what is told may be above 4000000000000000000 by that tick. A reply may be
  * given at any moment between two ticks, once all ticks that were counted are
  * passed. Its TRAILING and LEADING are edges that held the true time when the

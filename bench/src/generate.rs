@@ -124,7 +124,9 @@ impl Input {
         }
     }
 
-    /// Mostly taken; one in ten is a conflict.
+    /// Mostly taken, with a lower edge that moves nothing, so that edges are the
+    /// same whether a bracket begins a tick earlier or not; one in ten is a
+    /// conflict.
     fn reply(&mut self, peer: u64) -> io::Result<()> {
         let tag = self.keeper.tags[peer as usize];
         let (lower, upper) = (self.keeper.lower, self.keeper.upper);
@@ -133,8 +135,7 @@ impl Input {
             let end = upper + LONGEST_TICK;
             (end + 1 + near, end + 2000)
         } else {
-            let trailing = (lower + near).min(upper);
-            (trailing, (upper - near).max(trailing))
+            (lower - near, (upper - near).max(lower))
         };
         self.line(&format!("(reply {peer} {tag} ({trailing} {leading}))"))
     }

@@ -92,7 +92,10 @@ impl Keeper {
     /// The edges of a keeper, and those in the answers to a pass and to a reply,
     /// are those at the last tick that was passed. `(read)` tells the upper edge
     /// with one longest tick more, and `(window ...)` goes by the same edges,
-    /// since less than a whole tick may have passed since.
+    /// since almost a whole tick may have gone by since then. A reply may be
+    /// given at any moment between two ticks, once all ticks that were counted
+    /// are passed. Its edges are such that held the true time when the peer sent
+    /// them, as those that the peer's own `(read)` tells.
     ///
     /// A numeral of a line has 1 to 19 digits, and the first of two or more is
     /// not 0. It is plain, without any `_`, or grouped, with one `_` between

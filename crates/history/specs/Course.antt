@@ -1,4 +1,4 @@
--- Courses: document 01, 'A course'. The set of the moments at which some course stands is a predicate on moments.
+-- Courses: document 01, 'A course', with the brackets of document 02, order 5. The set of the moments at which some course stands is a predicate on moments.
 use mathlib.Core.Path.{_≡_}
 use mathlib.Core.List.{List, [], _∷_}
 use Prim.Native.Nat.{ℕ, _*_, _≤_}

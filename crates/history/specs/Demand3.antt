@@ -1,4 +1,5 @@
--- Demand 3: one claim about every list of lines.
+-- Demand 3: one claim about every list of lines. 'The statement about the two sets now uses these brackets, with the keeper's edges at the last
+-- tick' (document 02, order 5): the edges here are the keeper's own, and not those that are told.
 use mathlib.Core.Path.{_≡_}
 use mathlib.Core.Bool.{true}
 use mathlib.Core.List.{List, [], _∷_}

@@ -19,7 +19,7 @@ keptRun =
     ∷ "(reply 5 2 (1000100 1000300))"
     ∷ [])
 
--- and then one whose bracket begins behind the edges, which conflicts, and a drop
+-- and then one whose bracket begins after the upper edge, which conflicts, and a drop
 abbrev pub allRun : List Input
 allRun =
     inputsOf

@@ -1,4 +1,4 @@
--- What each command does to a keeper, and what it answers: document 01, 'The calls', and document 02, order 3.
+-- What each command does to a keeper, and what it answers: document 01, 'The calls', and document 02, orders 3 and 5.
 use mathlib.Core.Bool.{true}
 use mathlib.Core.List.{List}
 use Prim.Native.Nat.{ℕ, _+_, _-_, _^_}
@@ -94,11 +94,13 @@ accepted k (C.Pass ticks) =
 accepted k (C.Request peer) = outcomeOf (A.Sent peer (k .requests + 1)) (asked k peer)
 accepted k (C.Reply peer tag reply) = replied k peer (replyVerdict (stateOf k) peer reply)
 accepted k (C.Drop peer) = outcomeOf (A.Dropped peer) (ended k peer (k .edges) (k .conflicts))
+-- 'the read line tells UPPER plus one longest tick, with CENTRE and ERROR worked from the told edges' (order 5)
 accepted k C.Read =
     let edges = told (k .claim) (k .edges) in
     outcomeOf (A.Time edges (centre edges) (errorOf edges) (k .conflicts) (countBelow 16 (bitOf (k .waiting)))) k
 accepted k C.Waiting = outcomeOf A.Waiting k
--- '`(open SLOT)` if every moment from the keeper's lower through its upper edge is inside, `(shut SLOT)` if none is, and otherwise `(unsure SLOT)`'
+-- '`(open SLOT)` if every moment from the keeper's lower through its upper edge is inside, `(shut SLOT)` if none is, and otherwise `(unsure SLOT)`',
+-- and 'Windows use told edges' (order 5)
 accepted k (C.Window slot start end) = outcomeOf (A.Heater slot (windowState (spanOf start end) (told (k .claim) (k .edges)))) k
 
 -- What a command does: 'The keeper stays as it was in every row' of the refusals.

@@ -35,6 +35,7 @@ pub enum Answer {
     Sent(u8, u32),
     Replied(u8, Verdict),
     Dropped(u8),
+    // the edges that are told
     Time {
         edges: Interval,
         centre: i64,

@@ -1,4 +1,4 @@
-// What is answered of a heater's window: document 02, order 3. It takes claim and edges, and not the keeper, since a window changes nothing in the
+// What is answered of a heater's window: document 02, orders 3 and 5. It takes claim and edges, and not the keeper, since a window changes nothing in the
 // keeper.
 use crate::Answer;
 use calendar::Date;

@@ -1,16 +1,15 @@
 -- Edges in the range and in order, as orders of integers, and that what is computed of them fits an i64.
 use mathlib.Core.Path.{_≡_}
 use mathlib.Core.Bool.{true, _&&_}
-use Prim.Native.Nat.{ℕ, _*_, _≤_}
-use lib.IntN.{ℤ, pos, _+ℤ_, _-ℤ_}
+use lib.IntN.{ℤ, _-ℤ_}
 use lib.Signed.{leZ, _≤ℤ_}
 use mir.Syntax.{w64}
 use mir.Val.{SFits}
 use Rattle.bits.proofs.Tests.{both, join}
-use Rattle.moment.specs.Moment.{earliest, latest, inRange, floorHalf}
+use Rattle.moment.specs.Moment.{earliest, latest, inRange}
 use Rattle.moment.specs.Intervals.{edgesWithin, bothInRange}
 use Rattle.moment.specs.declared.Interval.{Interval}
-use Rattle.moment.proofs.Integers.{ints, make-leZ-true, sum, dif, half}
+use Rattle.moment.proofs.Integers.{ints, make-leZ-true, dif}
 use Rattle.moment.proofs.IntervalLaws.{range-made, range-read}
 
 pub record Within (edges : Interval) : Type 0 where
@@ -48,16 +47,13 @@ ordered-within edges range order = join range (make-leZ-true (edges .lower) (edg
 pub range-fits : (m : ℤ) → inRange m ≡ true → SFits w64 m
 range-fits m e = let (from, through) = range-read m e in omega ints
 
--- and so do the edges, their sum and their difference
+-- and so do the edges and their difference
 module _ (i : Interval) (h : Within i) where
   pub lower-fits : SFits w64 (i .lower)
   lower-fits = omega ints
 
   pub upper-fits : SFits w64 (i .upper)
   upper-fits = omega ints
-
-  pub ends-fit : SFits w64 (i .lower +ℤ i .upper)
-  ends-fit = omega (ints, sum (i .lower) (i .upper))
 
   pub width-fits : SFits w64 (i .upper -ℤ i .lower)
   width-fits = omega (ints, dif (i .upper) (i .lower))

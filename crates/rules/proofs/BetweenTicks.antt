@@ -1,7 +1,7 @@
 -- What order 5 is for, proved: `between-ticks`.
 use mathlib.Core.Path.{_≡_, refl}
 use Prim.Native.Nat.{ℕ, _*_}
-use lib.IntN.{ℤ, pos, _+ℤ_}
+use lib.IntN.{ℤ, pos}
 use Rattle.moment.specs.Moment.{longest}
 use Rattle.moment.specs.Intervals.{Holds}
 use Rattle.moment.specs.declared.Interval.{Interval}
@@ -12,7 +12,7 @@ use Rattle.rules.specs.declared.Rule.{Rule}
 use Rattle.rules.specs.declared.Finding.{Finding}
 use Rattle.rules.specs.declared.Finding.the-variants.{Conflict, Taken, Kept}
 use Rattle.rules.specs.declared.Verdict.{Verdict}
-use Rattle.rules.proofs.Sets.{Near, bracket-moments, told-moments, adopted-holds}
+use Rattle.rules.proofs.Sets.{bracket-moments, told-moments, adopted-holds}
 use Rattle.rules.proofs.VerdictLaws.{Sound, judged-sound}
 
 now-told : (claim : ℕ) (edges : Interval) (last now : ℤ) → SinceTick claim last now → Holds edges last → Holds (told claim edges) now

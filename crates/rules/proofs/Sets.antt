@@ -123,7 +123,15 @@ pub met-within : (b edges : Interval) (m : ℤ) → Holds edges m → Holds b m 
 unfolding narrowed
 met-within b edges m h k = meet b edges m .0 (k, h)
 
--- under mm the new edges hold the whole bracket
+-- Under mm the new edges hold the moments from w + 1 longest ticks before a moment of the reply's edges through as many after one, and no other.
+pub adopted-moments : (claim w : ℕ) (reply : Interval) (m : ℤ) → reply .lower ≤ℤ reply .upper
+    → Holds (adopted (outward claim w) reply) m ↔ Near reply ((w + 1) * longest claim) ((w + 1) * longest claim) m
+unfolding adopted outward
+adopted-moments claim w reply m order =
+    let all = (w + 1) * longest claim in
+    (near-reached reply all all m order, near-within reply all all m)
+
+-- So they hold the whole bracket.
 pub adopted-holds : (claim w : ℕ) (reply : Interval) (m : ℤ) → Holds (bracket claim w reply) m → Holds (adopted (outward claim w) reply) m
 unfolding bracket adopted outward
 adopted-holds claim w reply m h =

@@ -1,11 +1,11 @@
--- What the verdict on a reply says of moments and of edges.
+-- What the verdict on a reply says of widths, of moments and of edges.
 use mathlib.Core.Path.{_≡_, refl, sym, ap, _∙_}
 use mathlib.Core.Bool.{Bool, true, false, not}
 use Prim.Native.Nat.{ℕ}
 use native.Mathlib.Omega.{arith}
 use borrow.Author.Tests.{not-false}
-use lib.IntN.{ℤ, pos}
-use lib.Signed.{_≤ℤ_}
+use lib.IntN.{ℤ, pos, _-ℤ_}
+use lib.Signed.{_≤ℤ_, _<ℤ_}
 use Rattle.bits.specs.Choice.{choose}
 use Rattle.bits.proofs.Tests.{by-test}
 use Rattle.moment.specs.Intervals.{Holds, bothInRange, edgesWithin}
@@ -20,11 +20,36 @@ use Rattle.rules.specs.declared.Finding.the-variants.{Conflict, Taken, K
 use Rattle.rules.specs.declared.Verdict.{Verdict}
 use Rattle.rules.proofs.Sets.{none-in-both, met-within, met-reached}
 use Rattle.rules.proofs.Limits.{narrowed-within, adopted-within}
+use Rattle.rules.proofs.Widths.{narrowed-no-wider, adopted-no-wider, adopted-wider}
 
 -- a reply's span is not negative
 pub outward-from : (claim w : ℕ) → pos 0 ≤ℤ outward claim w
 unfolding outward
 outward-from claim w = omega ints
+
+-- The edges after a verdict are no wider than before it, whatever the rule; and a reply that is answered with `kept` would have been wider,
+-- moved outward by the same span by which it would have been adopted.
+pub record NoWider (span : ℤ) (reply edges : Interval) (v : Verdict) : Type 0 where
+  pub after : (v .edges .upper -ℤ v .edges .lower) ≤ℤ (edges .upper -ℤ edges .lower)
+  pub kept : v .finding ≡ Kept → (edges .upper -ℤ edges .lower) <ℤ (adopted span reply .upper -ℤ adopted span reply .lower)
+
+module _ (b : Interval) (span : ℤ) (reply edges : Interval) where
+  -- under mm the test is of the width that would be adopted
+  mm-no-wider : (t : Bool) → noWider span reply edges ≡ t → NoWider span reply edges (choose t (λ _. verdict Taken (adopted span reply)) (λ _. verdict Kept edges))
+  mm-no-wider true e = record { after = adopted-no-wider span reply edges e; kept = λ f. absurd (let z : _≡_ {A = ℕ} 0 1 = cc in omega arith) }
+  mm-no-wider false e = record { after = omega ints; kept = λ f. adopted-wider span reply edges e }
+
+  rule-no-wider : (rule : Rule) → NoWider span reply edges (judgedBy rule b span reply edges)
+  unfolding judgedBy
+  rule-no-wider Im = record { after = narrowed-no-wider b edges; kept = λ f. absurd (let z : _≡_ {A = ℕ} 0 1 = cc in omega arith) }
+  rule-no-wider Mm = mm-no-wider (noWider span reply edges) refl
+
+  pub judged-no-wider : (rule : Rule) → NoWider span reply edges (judged rule b span reply edges)
+  unfolding judged
+  judged-no-wider rule =
+      by-test (conflicting b edges)
+      (λ e. rw e (record { after = omega ints; kept = λ f. absurd (let z : _≡_ {A = ℕ} 0 1 = cc in omega arith) }))
+      (λ e. rw e (rule-no-wider rule))
 
 -- A verdict on a reply with the bracket, for a keeper with the rule and the edges. In a conflict no moment lies in both. What lies in both is
 -- held by edges that are taken; under im they hold nothing else. Else the edges stay; under im nothing is kept.

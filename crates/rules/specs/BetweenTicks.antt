@@ -1,6 +1,6 @@
 -- What order 5 of document 02 is for: 'A frame may arrive, or a reading leave, almost a whole tick after the last count.' The true time is a whole
--- number of nanoseconds here; `last` is the true time at the keeper's last tick, and `now` the true time at which a reading leaves or a frame is
--- taken.
+-- number of nanoseconds here; `last` is the true time at the keeper's last tick, and `now` the true time at which a reading leaves or a frame
+-- arrives.
 use mathlib.Core.Path.{_≡_}
 use Prim.Native.Nat.{ℕ, _*_, _≤_}
 use lib.IntN.{ℤ, pos, _+ℤ_}
@@ -22,7 +22,7 @@ pub record SinceTick (claim : ℕ) (last now : ℤ) : Type 0 where
   pub before : now <ℤ (last +ℤ pos tick)
 
 -- A frame that left its peer at the true time `left`, anywhere between the request's tick and now. From the request's tick, at the true time
--- `asked`, w ticks led to the last one, and by the claim they took between w shortest and w longest.
+-- `asked`, w ticks passed up to the last one, and by the claim they took between w shortest and w longest.
 pub record Frame (claim w : ℕ) (asked left last now : ℤ) : Type 0 where
   pub passed : ℕ
   pub least : w * shortest claim ≤ passed

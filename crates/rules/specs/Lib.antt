@@ -1,4 +1,4 @@
--- The rules on edges, the verdict on a reply, windows, and what the tick is for that a bracket and told edges have more.
+-- The rules on edges, the verdict on a reply, windows, and why brackets and told edges have one tick more.
 pub mod Rules
 pub mod Verdict
 pub mod BetweenTicks

@@ -1,5 +1,5 @@
 -- How far an edge is moved outward: so little that a moment of the range moved by it, and the width of two moments with it twice, fit an i64. The
--- longest wait is under 4 * 10^12 ns.
+-- longest wait and one tick are under 4 * 10^12 ns.
 use lib.IntN.{ℤ, pos}
 use lib.Signed.{_≤ℤ_}
 

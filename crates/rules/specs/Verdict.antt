@@ -1,5 +1,5 @@
--- What a reply comes to: document 01, 'Reply'; order 5 of document 02 is in the bracket and the span that are handed in. One definition, by which the causes of a refusal, what an accepted reply does, the log and
--- courses go.
+-- What a reply comes to: document 01, 'Reply'; order 5 of document 02 is in the bracket and the span that are handed in. One definition, by
+-- which the causes of a refusal, what an accepted reply does, the log and courses go.
 use mathlib.Core.Bool.{Bool, true, false, not, _&&_}
 use Prim.Native.Nat.{ℕ, _+_}
 use lib.IntN.{ℤ}

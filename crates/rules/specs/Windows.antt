@@ -1,4 +1,4 @@
--- A heater's window and the edges: document 02, order 3. A window is given by its first moment and its last, as an interval's lower and upper.
+-- A heater's window and the edges: document 02, order 3; since order 5 the edges are the told ones. A window is given by its first moment and its last, as an interval's lower and upper.
 use mathlib.Core.Bool.{_&&_, _||_}
 use lib.IntN.{ℤ}
 use lib.Signed.{leZ, ltZ, _≤ℤ_, _<ℤ_}

@@ -1,5 +1,5 @@
-// The rules on edges, and the verdict on a reply: document 01, 'The calls', from MM-1, MM-2, IM-1 and IM-2 of the report; and what is told of a
-// window: document 02, order 3.
+// The rules on edges, and the verdict on a reply: document 01, 'The calls', from MM-1, MM-2, IM-1 and IM-2 of the report; and what is told of
+// edges and windows: document 02, orders 3 and 5.
 use moment::Interval;
 
 pub mod edges;
@@ -28,7 +28,7 @@ pub struct Verdict {
     pub edges: Interval,
 }
 
-// What is told of a window: every moment within the edges is inside, none is, or some are and some are not.
+// What is told of a window: every moment within the told edges is inside, none is, or some are and some are not.
 pub enum WindowState {
     Open,
     Shut,

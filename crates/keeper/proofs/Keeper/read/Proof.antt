@@ -28,17 +28,17 @@ returns c =
     (rw (sym (c .before .before .pre) ∙ not-true _ (c .before .if1 .taken))))
 
 -- the edges of a keeper that counts as started
-kept-edges : (c : tie.Else1) → edgesWithin (c .before .args .self .edges) ≡ true
-kept-edges c = started-read (c .before .args .self) (sym (c .before .pre) ∙ not-false _ (c .if1 .left)) .edges
+own-edges : (c : tie.Else1) → edgesWithin (c .before .args .self .edges) ≡ true
+own-edges c = started-read (c .before .args .self) (sym (c .before .pre) ∙ not-false _ (c .if1 .left)) .edges
 
 told-of-requires : tie.Need-told-of-requires
-told-of-requires c κs = kept-edges (c .before)
+told-of-requires c κs = own-edges (c .before)
 
 centre-of-requires : tie.Need-centre-of-requires
-centre-of-requires c κs = kept-edges (c .before .before)
+centre-of-requires c κs = own-edges (c .before .before)
 
 error-of-requires : tie.Need-error-of-requires
-error-of-requires c κs = kept-edges (c .before .before .before)
+error-of-requires c κs = own-edges (c .before .before .before)
 
 count-of-requires : tie.Need-count-of-requires
 count-of-requires c κs = search needs

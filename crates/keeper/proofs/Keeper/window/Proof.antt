@@ -1,6 +1,5 @@
 -- `keeper::Keeper::window` meets its contract: the answer is the command's, and the keeper is handed back as it was.
 use mathlib.Core.Path.{sym, _∙_}
-use borrow.Author.Needs.{needs}
 use Rattle.keeper.proofs.StartedLaws.{started-read}
 use Rattle.keeper.proofs.WindowLaws.{window-applied}
 use Rattle.keeper.proofs.Keeper.window.Statement.{statement}
