@@ -5,12 +5,12 @@ use answers::heater_line;
 use answers::put_refusal;
 use answers::sent_line;
 use answers::started_line;
-use answers::waiting_line;
 use edge_lines::at_line;
 use edge_lines::replied_line;
 use keeper::Answer;
 use keeper::Keeper;
 use time_lines::time_line;
+use waiting_lines::waiting_line;
 ghost use Rattle.answers.specs.Writing.{LinePut};
 
 // The line of an answer and its LF, at a place of the output; it gives the place after them. The list of the waiting peers is that of the keeper.

@@ -14,21 +14,17 @@ use Rattle.numeral.proofs.Digits.{digits-most}
 use Rattle.rules.specs.declared.WindowState.{WindowState}
 use Rattle.rules.specs.declared.WindowState.the-variants.{Open, Shut, Unsure}
 use Rattle.writing.specs.Puts.{Puts}
-use Rattle.writing.proofs.PutsLaws.{_then_}
+use Rattle.writing.proofs.PutsLaws.{puts-same, _then_}
 use Rattle.keeper.specs.declared.Answer.{Answer}
 use Rattle.keeper.specs.declared.Keeper.{Keeper}
-use Rattle.answers.specs.Answers.{windowWord, IsLine}
+use Rattle.answers.specs.Answers.{windowWord, lineOf}
 use Rattle.answers.specs.Writing.{PutShort, LinePut}
 
--- by the case that the answer is
-pub by-line : {a d : Answer} {k : Keeper} {b s x : List ℕ} {at n : ℕ} → a ≡ d → IsLine d k s → PutShort b at s x n → LinePut a k b at x n
-by-line {s = s} e l f = rw e (record { bytes = s; line = l; puts = f .puts; short = λ h. f .short })
+-- by the case that the answer is, which lists nothing of the keeper
+pub by-line : {a d : Answer} {k : Keeper} {b x : List ℕ} {at n : ℕ} → a ≡ d → ((k : Keeper) → PutShort b at (lineOf d k) x n) → LinePut a k b at x n
+by-line {k = k} e f = record { put = λ h. rw e (f k) }
 
 -- ---- writes
-
--- the bytes put, grouped another way
-pub puts-same : {b s t a : List ℕ} {at n : ℕ} → Puts b at s a n → s ≡ t → Puts b at t a n
-puts-same p e = rw e at p
 
 -- a byte stored within the output is put there
 pub stored : (b : List ℕ) (at x : ℕ) → at < length b → Puts b at (x ∷ []) (set b at x) (at + 1)

@@ -1,5 +1,5 @@
 -- Every byte of an answer's line is a printable one other than `_`, as in a command that is written: no answer carries a `_`, or an LF before its end.
-use mathlib.Core.Path.{_≡_, refl, ap, _∙_}
+use mathlib.Core.Path.{_≡_, refl}
 use mathlib.Core.Bool.{true, false}
 use mathlib.Core.List.{List, [], _∷_, _++_}
 use Prim.Native.Nat.{ℕ}
@@ -16,10 +16,11 @@ use Rattle.rules.specs.declared.WindowState.{WindowState}
 use Rattle.rules.specs.declared.WindowState.the-variants.{Open, Shut, Unsure}
 use Rattle.writing.specs.Puts.{pair}
 use Rattle.command.proofs.PlainBytes.{printable, printable-carries, plain-append, digits-plain, signed-plain}
+use Rattle.waiting_lines.specs.Waiting.{peerTag, waitingPeers, waitingLine}
 use Rattle.keeper.specs.declared.Keeper.{Keeper}
 use Rattle.keeper.specs.declared.Answer.{Answer}
 use Rattle.keeper.specs.declared.Answer.the-variants as A
-use Rattle.answers.specs.Answers.{edgesLine, findingWord, windowWord, lineOf, waitingPeers, waitingLine, IsLine}
+use Rattle.answers.specs.Answers.{edgesLine, findingWord, windowWord, oldestFirst, lineOf}
 
 -- three and five parts of a line
 three : (a b c : List ℕ) → printable a ≡ true → printable b ≡ true → printable c ≡ true → printable (a ++ b ++ c) ≡ true
@@ -59,10 +60,10 @@ unfolding printable
 short-plain word n h = three word (digits n) (bytes ")") h (number-plain n) refl
 
 peers-plain : (tags order : List ℕ) → printable (waitingPeers tags order) ≡ true
-unfolding waitingPeers printable
+unfolding waitingPeers peerTag printable
 peers-plain tags [] = refl
 peers-plain tags (p ∷ ps) =
-    plain-append (bytes " (" ++ digits p ++ bytes " " ++ digits (getD tags p 0) ++ bytes ")") (waitingPeers tags ps)
+    plain-append (peerTag p (getD tags p 0)) (waitingPeers tags ps)
     (five (bytes " (") (digits p) (bytes " ") (digits (getD tags p 0)) (bytes ")") refl (number-plain p) refl (number-plain (getD tags p 0)) refl)
     (peers-plain tags ps)
 
@@ -70,14 +71,14 @@ waiting-plain : (tags order : List ℕ) → printable (waitingLine tags order) �
 unfolding waitingLine printable
 waiting-plain tags order = three (bytes "(waiting") (waitingPeers tags order) (bytes ")") refl (peers-plain tags order) refl
 
-line-plain : (a : Answer) → printable (lineOf a) ≡ true
+pub answer-bytes : (a : Answer) (k : Keeper) → printable (lineOf a k) ≡ true
 unfolding lineOf printable
-line-plain (A.Started board) = short-plain (bytes "(started ") board refl
-line-plain (A.At ticks edges) = edges-plain (bytes "(at ") ticks edges refl
-line-plain (A.Sent peer tag) = five (bytes "(sent ") (digits peer) (bytes " ") (digits tag) (bytes ")") refl (number-plain peer) refl (number-plain tag) refl
-line-plain (A.Replied peer verdict) = edges-plain (findingWord (verdict .finding)) peer (verdict .edges) (finding-plain (verdict .finding))
-line-plain (A.Dropped peer) = short-plain (bytes "(dropped ") peer refl
-line-plain (A.Time edges centre error conflicts waiting) =
+answer-bytes (A.Started board) k = short-plain (bytes "(started ") board refl
+answer-bytes (A.At ticks edges) k = edges-plain (bytes "(at ") ticks edges refl
+answer-bytes (A.Sent peer tag) k = five (bytes "(sent ") (digits peer) (bytes " ") (digits tag) (bytes ")") refl (number-plain peer) refl (number-plain tag) refl
+answer-bytes (A.Replied peer verdict) k = edges-plain (findingWord (verdict .finding)) peer (verdict .edges) (finding-plain (verdict .finding))
+answer-bytes (A.Dropped peer) k = short-plain (bytes "(dropped ") peer refl
+answer-bytes (A.Time edges centre error conflicts waiting) k =
     five
     (bytes "(time " ++ pair (edges .lower) (edges .upper) ++ bytes " " ++ pair centre error ++ bytes " ")
     (digits conflicts)
@@ -89,21 +90,10 @@ line-plain (A.Time edges centre error conflicts waiting) =
     refl
     (number-plain waiting)
     refl
-line-plain A.Waiting = refl
-line-plain (A.Heater slot window) = short-plain (windowWord window) slot (window-plain window)
-line-plain (A.Refused n) = short-plain (bytes "(no ") n refl
-
-pub answer-bytes : (a : Answer) (k : Keeper) (s : List ℕ) → IsLine a k s → printable s ≡ true
-answer-bytes (A.Started board) k s e = ap printable e ∙ line-plain (A.Started board)
-answer-bytes (A.At ticks edges) k s e = ap printable e ∙ line-plain (A.At ticks edges)
-answer-bytes (A.Sent peer tag) k s e = ap printable e ∙ line-plain (A.Sent peer tag)
-answer-bytes (A.Replied peer verdict) k s e = ap printable e ∙ line-plain (A.Replied peer verdict)
-answer-bytes (A.Dropped peer) k s e = ap printable e ∙ line-plain (A.Dropped peer)
-answer-bytes (A.Time edges centre error conflicts waiting) k s e = ap printable e ∙ line-plain (A.Time edges centre error conflicts waiting)
-answer-bytes A.Waiting k s (order, each, e) = ap printable e ∙ waiting-plain (k .tags) order
-answer-bytes (A.Heater slot window) k s e = ap printable e ∙ line-plain (A.Heater slot window)
-answer-bytes (A.Refused n) k s e = ap printable e ∙ line-plain (A.Refused n)
+answer-bytes A.Waiting k = waiting-plain (k .tags) (oldestFirst k)
+answer-bytes (A.Heater slot window) k = short-plain (windowWord window) slot (window-plain window)
+answer-bytes (A.Refused n) k = short-plain (bytes "(no ") n refl
 
 -- no answer carries a `_`
-pub answer-carries : (a : Answer) (k : Keeper) (s : List ℕ) → IsLine a k s → carriesUnderscore s ≡ false
-answer-carries a k s h = printable-carries s (answer-bytes a k s h)
+pub answer-carries : (a : Answer) (k : Keeper) → carriesUnderscore (lineOf a k) ≡ false
+answer-carries a k = printable-carries (lineOf a k) (answer-bytes a k)

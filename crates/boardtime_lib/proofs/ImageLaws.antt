@@ -1,9 +1,8 @@
 -- The laws of a lent image: one of another length, a refused call, and an accepted one.
-use mathlib.Core.Path.{_≡_, refl, sym, ap, _∙_, subst}
+use mathlib.Core.Path.{_≡_, refl, ap, _∙_}
 use mathlib.Core.Bool.{false}
 use mathlib.Core.List.{List}
 use Prim.Native.Nat.{ℕ, _+_, _*_, _<_, _≤_}
-use borrow.Author.Tests.{lt-ltb, le-ltb}
 use lib.ListN.{length}
 use native.Mathlib.Omega.{arith}
 use Rattle.command.specs.Limits.{ticksWithin}
@@ -22,8 +21,8 @@ use Rattle.keeper.specs.declared.Keeper.{Keeper}
 use Rattle.keeper.specs.declared.Outcome.{Outcome}
 use Rattle.lent.specs.Lent.{PassLent}
 use Rattle.writing.specs.Puts.{leastOutput}
-use Rattle.line.specs.Call.{byReading, answered, numberAfter, keeperAfter, Wrote, Called}
-use Rattle.line.proofs.ResponseLaws.{wrote-within}
+use Rattle.line.specs.Call.{byReading, answered, Wrote, Called}
+use Rattle.line.proofs.ResponseLaws.{called-short, called-wrote}
 use Rattle.image.specs.Layout.{imageLength, imageOf, imageAfter, keeperIn}
 use Rattle.on_image.specs.Apply.{imageLeft, CommandImage}
 use Rattle.on_image.proofs.ApplyLaws.{store-whole, left-refused}
@@ -50,69 +49,52 @@ module _ (image : List ℕ) (whole : length image ≡ imageLength) where
   pub fresh-stored : {image′ : List ℕ} {k : Keeper} → k ≡ fresh → image′ ≡ imageAfter image k → FreshImage image 0 image′
   fresh-stored {k = k} e s = record { other-length = λ h. absurd (h whole); stored = λ _. (refl, store-whole image whole k s ∙ ap imageOf e) }
 
+  -- what a call with a line does to the keeper is done to the image
   line-answered : {line out image′ out′ : List ℕ} {next : Keeper} {number n : ℕ} → Called (keeperIn image) line out number next out′ n
       → image′ ≡ imageLeft image number next → LineImage image line out (number + 256 * n) image′ out′
-  line-answered {number = number} {n = n} call left =
+  line-answered call left =
       record {
         other-length = λ h. absurd (h whole);
-        answered = λ _. record { number = number; keeper = _; written = n; call = call; returned = refl; image-is = left };
+        answered = λ _. record { returned = rw (call .number-is, call .length-is); image-is = rw (call .number-is, call .keeper-is) at left; output-is = call .output-is };
       }
 
   -- an output that is too short: no byte is touched
   pub line-short : {out : List ℕ} (line : List ℕ) → length out < leastOutput → LineImage image line out 10 image out
-  unfolding numberAfter keeperAfter
-  line-short {out} line short =
-      line-answered {next = keeperIn image} {n = 0}
-      (record {
-        number-is = rw (lt-ltb _ _ short);
-        keeper-is = rw (lt-ltb _ _ short);
-        untouched = λ h. (refl, refl);
-        written = λ h. absurd (omega arith);
-        within = omega arith;
-      })
+  line-short line short =
+      line-answered (called-short (keeperIn image) line short)
       (left-refused image 10 (keeperIn image) (λ e. let z : _≡_ {A = ℕ} 10 0 = e in omega arith))
 
   -- an output with room: what is answered to the line is written
-  line-written : {line out image′ out′ : List ℕ} {n : ℕ} (o : Outcome) → leastOutput ≤ length out → length out′ ≡ length out → answered (keeperIn image) line ≡ o
+  line-written : {line out image′ out′ : List ℕ} {n : ℕ} (o : Outcome) → leastOutput ≤ length out → answered (keeperIn image) line ≡ o
       → Wrote (o .answer) (o .keeper) out out′ n → image′ ≡ imageLeft image (numberOf (o .answer)) (o .keeper)
       → LineImage image line out (numberOf (o .answer) + 256 * n) image′ out′
-  unfolding numberAfter keeperAfter
-  line-written {line} {out} {image′} {out′} {n} o room same e wrote left =
-      line-answered
-      (record {
-        number-is = rw (le-ltb _ _ room) (ap (λ (x : Outcome). numberOf (x .answer)) (sym e));
-        keeper-is = rw (le-ltb _ _ room) (ap (λ (x : Outcome). x .keeper) (sym e));
-        untouched = λ h. absurd (omega arith);
-        written = λ h. subst (λ (x : Outcome). Wrote (x .answer) (x .keeper) out out′ n) (sym e) wrote;
-        within = wrote-within wrote same;
-      })
-      left
+  line-written {line} o room e wrote left = line-answered (called-wrote (keeperIn image) line o room e wrote) left
 
-  pub line-command : {line out image′ out′ : List ℕ} {r : ℕ} {c : Command} → leastOutput ≤ length out → length out′ ≡ length out → readingOf line ≡ Accepted c
+  pub line-command : {line out image′ out′ : List ℕ} {r : ℕ} {c : Command} → leastOutput ≤ length out → readingOf line ≡ Accepted c
       → CommandImage image c out r image′ out′ → LineImage image line out r image′ out′
   unfolding answered
-  line-command {c = c} room same read command =
+  line-command {c = c} room read command =
       rw (command .returned)
-      (line-written (apply (keeperIn image) c) room same (ap (λ (x : Reading). byReading x (keeperIn image)) read) (command .wrote) (command .image-is))
+      (line-written (apply (keeperIn image) c) room (ap (λ (x : Reading). byReading x (keeperIn image)) read) (command .wrote) (command .image-is))
 
   -- a line that is no command leaves the image as it was
-  line-none : {line out out′ : List ℕ} {n : ℕ} (m : ℕ) → (m ≡ 0 → ⊥) → leastOutput ≤ length out → length out′ ≡ length out
+  line-none : {line out out′ : List ℕ} {n : ℕ} (m : ℕ) → (m ≡ 0 → ⊥) → leastOutput ≤ length out
       → answered (keeperIn image) line ≡ outcomeOf (A.Refused m) (keeperIn image) → ((k : Keeper) → Wrote (A.Refused m) k out out′ n)
       → LineImage image line out (m + 256 * n) image out′
-  line-none m some room same e wrote =
-      line-written (outcomeOf (A.Refused m) (keeperIn image)) room same e (wrote (keeperIn image)) (left-refused image m (keeperIn image) some)
+  line-none m some room e wrote =
+      line-written (outcomeOf (A.Refused m) (keeperIn image)) room e (wrote (keeperIn image)) (left-refused image m (keeperIn image) some)
 
-  pub line-no-shape : {line out out′ : List ℕ} {n : ℕ} → leastOutput ≤ length out → length out′ ≡ length out → readingOf line ≡ NoShape
+  pub line-no-shape : {line out out′ : List ℕ} {n : ℕ} → leastOutput ≤ length out → readingOf line ≡ NoShape
       → ((k : Keeper) → Wrote (A.Refused 1) k out out′ n) → LineImage image line out (1 + 256 * n) image out′
   unfolding answered
-  line-no-shape room same read wrote =
-      line-none 1 (λ e. let z : _≡_ {A = ℕ} 1 0 = e in omega arith) room same (ap (λ (x : Reading). byReading x (keeperIn image)) read) wrote
+  line-no-shape room read wrote =
+      line-none 1 (λ e. let z : _≡_ {A = ℕ} 1 0 = e in omega arith) room (ap (λ (x : Reading). byReading x (keeperIn image)) read) wrote
 
-  pub line-outside : {line out out′ : List ℕ} {n : ℕ} → leastOutput ≤ length out → length out′ ≡ length out → readingOf line ≡ OutsideLimits
+  pub line-outside : {line out out′ : List ℕ} {n : ℕ} → leastOutput ≤ length out → readingOf line ≡ OutsideLimits
       → ((k : Keeper) → Wrote (A.Refused 2) k out out′ n) → LineImage image line out (2 + 256 * n) image out′
   unfolding answered
-  line-outside room same read wrote =
-      line-none 2 (λ e. let z : _≡_ {A = ℕ} 2 0 = e in omega arith) room same (ap (λ (x : Reading). byReading x (keeperIn image)) read) wrote
+  line-outside room read wrote =
+      line-none 2 (λ e. let z : _≡_ {A = ℕ} 2 0 = e in omega arith) room (ap (λ (x : Reading). byReading x (keeperIn image)) read) wrote
 
   pub pass-moved : {image′ : List ℕ} {k next : Keeper} {ticks number r : ℕ} → k ≡ keeperIn image → PassLent k ticks number next → r ≡ number
       → image′ ≡ imageLeft image r next → PassImage image ticks r image′

@@ -7,7 +7,7 @@ use Rattle.command.specs.declared.Command.the-variants as C
 use Rattle.keeper.specs.State.{fresh}
 use Rattle.keeper.specs.Apply.{apply, numberOf}
 use Rattle.keeper.specs.declared.Keeper.{Keeper}
-use Rattle.line.specs.Call.{Called}
+use Rattle.line.specs.Call.{numberAfter, keeperAfter, outputAfter, lengthAfter}
 use Rattle.image.specs.Layout.{imageLength, imageOf, keeperIn}
 use Rattle.on_image.specs.Apply.{imageLeft}
 
@@ -24,14 +24,15 @@ pub record FreshImage (image : List ℕ) (r : ℕ) (image′ : List ℕ) : Type 
   pub other-length : (length image ≡ imageLength → ⊥) → Refused image r image′
   pub stored : length image ≡ imageLength → (r ≡ 0) × (image′ ≡ imageOf fresh)
 
--- The keeper is the one that stands in the image; number, keeper, output and length are those of the call with a line.
+-- What a call with a line returns: the number is the result's lowest byte, and the length written the bytes above it.
+abbrev pub resultAfter : Keeper → List ℕ → ℕ → ℕ
+resultAfter k line room = numberAfter k line room + 256 * lengthAfter k line room
+
+-- The keeper is the one that stands in the image; result, image and output are those of the call with a line.
 pub record Answered (image line out : List ℕ) (r : ℕ) (image′ out′ : List ℕ) : Type 0 where
-  pub number : ℕ
-  pub keeper : Keeper
-  pub written : ℕ
-  pub call : Called (keeperIn image) line out number keeper out′ written
-  pub returned : r ≡ number + 256 * written
-  pub image-is : image′ ≡ imageLeft image number keeper
+  pub returned : r ≡ resultAfter (keeperIn image) line (length out)
+  pub image-is : image′ ≡ imageLeft image (numberAfter (keeperIn image) line (length out)) (keeperAfter (keeperIn image) line (length out))
+  pub output-is : out′ ≡ outputAfter (keeperIn image) line out
 
 pub record LineImage (image line out : List ℕ) (r : ℕ) (image′ out′ : List ℕ) : Type 0 where
   pub other-length : (length image ≡ imageLength → ⊥) → Refused image r image′ × (out′ ≡ out)

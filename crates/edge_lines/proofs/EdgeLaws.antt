@@ -10,10 +10,9 @@ use Rattle.moment.specs.declared.Interval.{Interval}
 use Rattle.rules.specs.declared.Finding.{Finding}
 use Rattle.rules.specs.declared.Finding.the-variants.{Conflict, Taken, Kept}
 use Rattle.writing.specs.Puts.{Puts, pair}
-use Rattle.writing.proofs.PutsLaws.{_then_}
+use Rattle.writing.proofs.PutsLaws.{_then_, puts-same}
 use Rattle.answers.specs.Answers.{edgesLine, findingWord}
 use Rattle.answers.specs.Writing.{lineEnd, PutShort}
-use Rattle.answers.proofs.LineLaws.{puts-same}
 
 -- a word before a line that ends in edges
 edges-after : (w : List ℕ) (n : ℕ) (edges : Interval) → edgesLine w n edges ≡ w ++ edgesLine [] n edges

@@ -10,6 +10,7 @@ ghost use Prim.Native.Nat.{_≤_};
 ghost use lib.ListN.{length};
 ghost use Rattle.writing.specs.Puts.{Puts};
 ghost use Rattle.keeper.specs.declared.Answer.the-variants.{At, Replied};
+ghost use Rattle.keeper.specs.declared.Keeper.{Keeper};
 ghost use Rattle.answers.specs.Answers.{edgesLine, findingWord, lineOf};
 ghost use Rattle.answers.specs.Writing.{lineEnd, PutShort};
 
@@ -27,7 +28,7 @@ fn put_edges(out: &mut [u8], at: usize, n: u64, edges: Interval) -> usize
 
 // '(at TICKS (LOWER UPPER))' and LF
 pub fn at_line(out: &mut [u8], at: usize, ticks: u64, edges: Interval) -> usize
-    ensures { λ r. ⌜ PutShort (now (out .entry)) at (lineOf (At ticks edges)) (now (out .exit)) r ⌝ }
+    ensures { λ r. ⌜ ((k : Keeper) → PutShort (now (out .entry)) at (lineOf (At ticks edges) k) (now (out .exit)) r) ⌝ }
 {
     let at = put_bytes(out, at, b"(at ");
     put_edges(out, at, ticks, edges)
@@ -46,7 +47,7 @@ fn put_finding(out: &mut [u8], at: usize, finding: Finding) -> usize
 
 // '(taken PEER (LOWER UPPER))', or the word of another finding, and LF
 pub fn replied_line(out: &mut [u8], at: usize, peer: u8, verdict: Verdict) -> usize
-    ensures { λ r. ⌜ PutShort (now (out .entry)) at (lineOf (Replied peer verdict)) (now (out .exit)) r ⌝ }
+    ensures { λ r. ⌜ ((k : Keeper) → PutShort (now (out .entry)) at (lineOf (Replied peer verdict) k) (now (out .exit)) r) ⌝ }
 {
     let finding = verdict.finding;
     let edges = verdict.edges;

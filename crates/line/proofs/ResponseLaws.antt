@@ -1,11 +1,11 @@
 -- Laws of the whole call: the list of the waiting peers is answered only by a keeper that counts as started, and what is written lies within
 -- the output.
-use mathlib.Core.Path.{_≡_, refl, ap}
-use mathlib.Core.Bool.{Bool, true, false}
+use mathlib.Core.Path.{_≡_, ap}
+use mathlib.Core.Bool.{true, false}
 use mathlib.Core.List.{List, _∷_}
-use Prim.Native.Nat.{ℕ, _+_, _≤_}
+use Prim.Native.Nat.{ℕ, _+_, _<_, _≤_}
 use native.Mathlib.Omega.{arith}
-use borrow.Author.Tests.{ltb-true, ltb-false}
+use borrow.Author.Tests.{ltb-false, lt-ltb, le-ltb}
 use lib.Dec.{ltb}
 use lib.ListN.{length, drop, length-append}
 use Rattle.command.specs.declared.Reading.{Reading}
@@ -16,13 +16,15 @@ use Rattle.keeper.specs.State.{countsAsStarted, stateOf}
 use Rattle.command.specs.Causes.{mostNumber}
 use Rattle.keeper.specs.Apply.{numberOf}
 use Rattle.keeper.specs.declared.Keeper.{Keeper}
+use Rattle.keeper.specs.declared.Outcome.{Outcome}
 use Rattle.keeper.specs.declared.Answer.{Answer}
 use Rattle.keeper.specs.declared.Answer.the-variants as A
 use Rattle.keeper.proofs.Listing.{listed-started}
 use Rattle.keeper.proofs.Returned.{apply-number}
 use Rattle.keeper.proofs.Causes.{refusal-most}
 use Rattle.writing.specs.Puts.{leastOutput}
-use Rattle.line.specs.Call.{byReading, answered, numberAfter, keeperAfter, Wrote, Called}
+use Rattle.answers.specs.Answers.{lineOf}
+use Rattle.line.specs.Call.{byReading, answered, numberAfter, keeperAfter, outputAfter, lengthAfter, Wrote, Called}
 use Rattle.line.proofs.AnsweredLaws.{refused-same}
 
 pub listed : (k : Keeper) (line : List ℕ) → answered k line .answer ≡ A.Waiting → countsAsStarted (answered k line .keeper) ≡ true
@@ -35,16 +37,34 @@ listed k line h = go (readingOf line) h
     go OutsideLimits e = absurd (let z : _≡_ {A = ℕ} 0 1 = cc in omega arith)
 
 pub wrote-within : {a : Answer} {k : Keeper} {before after : List ℕ} {n : ℕ} → Wrote a k before after n → length after ≡ length before → n ≤ length before
-wrote-within {before = before} w same =
-    omega (arith, w .written, ap length (w .output), length-append (w .bytes) (10 ∷ drop (length (w .bytes) + 1) before))
+wrote-within {a} {k} {before} w same =
+    omega (arith, w .written, ap length (w .output), length-append (lineOf a k) (10 ∷ drop (length (lineOf a k) + 1) before))
 
--- what a call writes is never longer than the least output
-pub called-short : {k next : Keeper} {line before after : List ℕ} {number n : ℕ} → Called k line before number next after n → n ≤ leastOutput
-called-short {before = before} {n = n} c = by-room (ltb (length before) leastOutput) refl
-  where
-    by-room : (t : Bool) → ltb (length before) leastOutput ≡ t → n ≤ leastOutput
-    by-room true e = omega (arith, c .untouched (ltb-true (length before) leastOutput e) .1)
-    by-room false e = c .written (ltb-false (length before) leastOutput e) .short
+-- ---- what a call does
+
+module _ (k : Keeper) (line : List ℕ) where
+  -- under 256 bytes nothing is touched
+  pub called-short : {before : List ℕ} → length before < leastOutput → Called k line before 10 k before 0
+  unfolding numberAfter keeperAfter outputAfter lengthAfter
+  called-short {before} h =
+      let short = lt-ltb (length before) leastOutput h in
+      record { number-is = rw short; keeper-is = rw short; output-is = rw short; length-is = rw short; short = omega arith }
+
+  -- otherwise the line of what is answered is written
+  pub called-wrote : {before after : List ℕ} {n : ℕ} (o : Outcome) → leastOutput ≤ length before → answered k line ≡ o
+      → Wrote (o .answer) (o .keeper) before after n → Called k line before (numberOf (o .answer)) (o .keeper) after n
+  unfolding numberAfter keeperAfter outputAfter lengthAfter
+  called-wrote {before} o h e w =
+      let room = le-ltb (length before) leastOutput h in
+      record { number-is = rw (room, e); keeper-is = rw (room, e); output-is = rw (room, e) (w .output); length-is = rw (room, e) (w .written); short = w .short }
+
+  -- what is written lies within the output
+  pub called-within : {next : Keeper} {before after : List ℕ} {number n : ℕ} → Called k line before number next after n → n ≤ length before
+  unfolding lengthAfter
+  called-within {before = before} {n = n} c =
+      by-test (ltb (length before) leastOutput)
+      (λ t. let none : n ≡ 0 = rw t at (c .length-is) in omega arith)
+      (λ t. omega (arith, c .short, ltb-false (length before) leastOutput t))
 
 -- ---- the number returned
 

@@ -18,13 +18,14 @@ use Rattle.answers.proofs.LineLaws.{by-line}
 use Rattle.line.specs.Call.{Wrote}
 
 pub at-front : {a : Answer} {k : Keeper} {b x : List ℕ} {n : ℕ} → LinePut a k b 0 x n → leastOutput ≤ length b → (a ≡ Waiting → countsAsStarted k ≡ true) → Wrote a k b x n
-at-front {b = b} {n = n} l room listed =
-    let s = l .bytes in
-    let short = l .short listed in
+at-front {a = a} {k = k} l room listed =
+    let s = lineOf a k in
+    let put = l .put listed in
+    let short = put .short in
     let long : length (s ++ 10 ∷ []) ≡ length s + 1 = length-append s (10 ∷ []) in
-    let (out, place) = put-room {at = 0} (omega (arith, short)) (l .puts .put (omega (arith, short))) in
-    record { bytes = s; line = l .line; output = out ∙ rw (append-assoc s (10 ∷ []), long, zero-add); written = omega arith; short = omega (arith, short) }
+    let (out, place) = put-room {at = 0} (omega (arith, short)) (put .puts .put (omega (arith, short))) in
+    record { output = out ∙ rw (append-assoc s (10 ∷ []), long, zero-add); written = omega arith; short = omega (arith, short) }
 
 -- a refusal's line lists nothing of the keeper
-pub refused-front : {b x : List ℕ} {n r : ℕ} → PutShort b 0 (lineOf (Refused n)) x r → leastOutput ≤ length b → (k : Keeper) → Wrote (Refused n) k b x r
-refused-front {n = n} p room k = at-front {a = Refused n} {k = k} (by-line refl refl p) room (λ h. absurd (let z : _≡_ {A = ℕ} 0 1 = cc in omega arith))
+pub refused-front : {b x : List ℕ} {n r : ℕ} → ((k : Keeper) → PutShort b 0 (lineOf (Refused n) k) x r) → leastOutput ≤ length b → (k : Keeper) → Wrote (Refused n) k b x r
+refused-front {n = n} p room k = at-front {a = Refused n} {k = k} (by-line refl p) room (λ h. absurd (let z : _≡_ {A = ℕ} 0 1 = cc in omega arith))

@@ -8,8 +8,7 @@ use lib.ListN.{take}
 use Rattle.text.specs.Words.{bytes}
 use Rattle.keeper.specs.State.{fresh}
 use Rattle.keeper.specs.declared.Keeper.{Keeper}
-use Rattle.answers.specs.Answers.{lineOf}
-use Rattle.line.specs.Call.{answered}
+use Rattle.line.specs.Call.{answered, answerLine}
 
 pub record Example : Type 0 where
   pub before : List String
@@ -25,7 +24,7 @@ keeperOf k [] = k
 keeperOf k (l ∷ ls) = keeperOf (answered k (bytes l) .keeper) ls
 
 unfoldable pub answerOf : Example → List ℕ
-answerOf e = lineOf (answered (keeperOf fresh (e .before)) (bytes (e .line)) .answer)
+answerOf e = answerLine (keeperOf fresh (e .before)) (bytes (e .line))
 
 -- 'A whole run': the lines, in order
 abbrev wholeRun : List String

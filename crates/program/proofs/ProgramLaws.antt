@@ -12,17 +12,16 @@ use Rattle.reader.specs.Reading.{longestLine, readingOf}
 use Rattle.keeper.specs.State.{fresh}
 use Rattle.keeper.specs.declared.Keeper.{Keeper}
 use Rattle.writing.specs.Puts.{leastOutput}
-use Rattle.answers.specs.Answers.{IsLine}
 use Rattle.line.specs.Call.{byReading, answered, keeperAfter}
 use Rattle.history.specs.Demand3.{keeperThrough}
 use Rattle.bits.proofs.Tests.{clash, by-test}
 use Rattle.history.proofs.Theorem.{demand-3}
 use Rattle.lines.specs.Lines.{breaks, linesOf}
-use Rattle.stream.specs.Stream.{through, Answers, Step, allGot, allWritten, ending, Turn, Turns, Ran, LongAlike}
+use Rattle.stream.specs.Stream.{through, Step, allGot, allWritten, ending, Turn, Turns, Ran, LongAlike}
 use Rattle.stream.proofs.More.{got-more, written-more, turns-more}
 use Rattle.stream.proofs.SoFar.{whole-lines-answered}
 use Rattle.stream.proofs.Theorem.{answers-the-input}
-use Rattle.serve.specs.Serving.{keeperNext, IsAnswer}
+use Rattle.serve.specs.Serving.{keeperNext, answerTo}
 use Rattle.program.specs.Turning.{between, InOrder, Turned}
 use Rattle.program.specs.Reading.{Read}
 use Rattle.program.specs.Program.{start, came, Program, begun, turned, inputOf, AnswersTheLines, AnswersTheWholeLines}
@@ -39,11 +38,11 @@ same-answered : (k : Keeper) (a b : List ℕ) → longestLine < length a → lon
 unfolding answered
 same-answered k a b h i = rw (too-long a h, too-long b i)
 
-pub long-alike : LongAlike keeperNext IsAnswer longestLine
+pub long-alike : LongAlike keeperNext answerTo longestLine
 unfolding keeperAfter
 long-alike k a b h i =
     let same = same-answered k a b h i in
-    (rw same, λ o x. record { bytes = x .bytes; line = rw same at (x .line); ended = x .ended })
+    (rw same, rw same)
 
 -- ---- the keeper is that of demand 3's run
 
@@ -65,7 +64,7 @@ between-more {buffer} s {g} {buffer₁} o r =
 record Reached (s : Stream) (buffer input written : List ℕ) : Type 0 where
   pub steps : List Step
   pub in-order : InOrder s buffer
-  pub turns : Turns keeperNext IsAnswer longestLine fresh [] false steps (s .keeper) (between buffer (s .from) (s .end)) (s .full)
+  pub turns : Turns keeperNext answerTo longestLine fresh [] false steps (s .keeper) (between buffer (s .from) (s .end)) (s .full)
   pub got : input ≡ allGot steps
   pub wrote : written ≡ allWritten steps
 
@@ -85,7 +84,7 @@ reached (turned {s} {r} {g} {buffer} {buffer₁} {buffer₂} {out} {out′} {inp
       steps = before .steps ++ step ∷ [];
       in-order = t .in-order;
       turns =
-          turns-more keeperNext IsAnswer longestLine fresh [] false (before .steps) step (s .keeper) (between buffer (s .from) (s .end)) (s .full)
+          turns-more keeperNext answerTo longestLine fresh [] false (before .steps) step (s .keeper) (between buffer (s .from) (s .end)) (s .full)
           (before .turns) (rw (between-more s (before .in-order) read) at (t .turn));
       got = ap (λ (l : List ℕ). l ++ step .got) (before .got) ∙ sym (got-more (before .steps) step);
       wrote = ap (λ (l : List ℕ). l ++ step .wrote) (before .wrote) ∙ sym (written-more (before .steps) step);
@@ -94,13 +93,13 @@ reached (turned {s} {r} {g} {buffer} {buffer₁} {buffer₂} {out} {out′} {inp
 -- ---- the end of the input
 
 whole-run : (steps : List Step) (k : Keeper) (left : List ℕ) (full : Bool) (input written : List ℕ) {k′ : Keeper} {after o : List ℕ} {full′ : Bool}
-    → Turns keeperNext IsAnswer longestLine fresh [] false steps k left full → full ≡ false → input ≡ allGot steps → written ≡ allWritten steps
-    → Turn keeperNext IsAnswer longestLine k (left ++ ending left) k′ after o full′ → AnswersTheLines input (written ++ o) k′
+    → Turns keeperNext answerTo longestLine fresh [] false steps k left full → full ≡ false → input ≡ allGot steps → written ≡ allWritten steps
+    → Turn keeperNext answerTo longestLine k (left ++ ending left) k′ after o full′ → AnswersTheLines input (written ++ o) k′
 whole-run steps k left full input written {k′} {after} {o} {full′} turns none got wrote t =
-    let ran : Ran keeperNext IsAnswer longestLine fresh steps o k′ =
+    let ran : Ran keeperNext answerTo longestLine fresh steps o k′ =
     record { before = k; left = left; turns = rw none at turns; after = after; full = full′; ended = t }
     in
-    let all = answers-the-input keeperNext IsAnswer longestLine long-alike fresh steps o k′ ran in
+    let all = answers-the-input keeperNext answerTo longestLine long-alike fresh steps o k′ ran in
     record {
       answers = rw (got, wrote) (all .written);
       keeper-is = rw got (all .state ∙ through-is fresh (linesOf (allGot steps)));
@@ -131,10 +130,10 @@ module _
 -- ---- before the end
 
 whole-lines : (steps : List Step) (k : Keeper) (left : List ℕ) (full : Bool) (input written : List ℕ)
-    → Turns keeperNext IsAnswer longestLine fresh [] false steps k left full → full ≡ false → input ≡ allGot steps → written ≡ allWritten steps
+    → Turns keeperNext answerTo longestLine fresh [] false steps k left full → full ≡ false → input ≡ allGot steps → written ≡ allWritten steps
     → AnswersTheWholeLines input written k
 whole-lines steps k left full input written turns none got wrote =
-    let all = whole-lines-answered keeperNext IsAnswer longestLine long-alike fresh steps k left (rw none at turns) in
+    let all = whole-lines-answered keeperNext answerTo longestLine long-alike fresh steps k left (rw none at turns) in
     record {
       answers = rw (got, wrote) (all .0);
       keeper-is = rw got (all .1 ∙ through-is fresh (take (breaks (allGot steps)) (linesOf (allGot steps))));

@@ -10,8 +10,7 @@ use Rattle.writing.specs.Puts.{leastOutput}
 use Rattle.history.specs.Log.{Input}
 use Rattle.history.specs.Demand3.{keeperThrough, Demand3}
 use Rattle.lines.specs.Lines.{breaks, linesOf}
-use Rattle.stream.specs.Stream.{Answers}
-use Rattle.serve.specs.Serving.{keeperNext, IsAnswer}
+use Rattle.serve.specs.Serving.{answers}
 use Rattle.program.specs.Turning.{Turned}
 use Rattle.program.specs.Reading.{Read}
 use Rattle.program.specs.declared.turn.Stream.{Stream}
@@ -40,12 +39,12 @@ inputOf l = record { line = l; room = leastOutput }
 -- 'splits at LF (a last line without LF counts if not empty) and writes one line for each. Nothing precedes or follows': what its turns had
 -- to write is the answers to the lines of the input, in turn, and the keeper is that of demand 3's run of them.
 pub record AnswersTheLines (input written : List ℕ) (k : Keeper) : Type 0 where
-  pub answers : Answers keeperNext IsAnswer fresh (linesOf input) written
+  pub answers : written ≡ answers fresh (linesOf input)
   pub keeper-is : k ≡ keeperThrough fresh (map inputOf (linesOf input))
   pub demand : Demand3 (map inputOf (linesOf input))
 
 -- Before the end, where no whole line is left, as when a read fails: what was written is the answers to the lines that an LF has ended, in turn,
 -- and nothing was answered of an unfinished one.
 pub record AnswersTheWholeLines (input written : List ℕ) (k : Keeper) : Type 0 where
-  pub answers : Answers keeperNext IsAnswer fresh (take (breaks input) (linesOf input)) written
+  pub answers : written ≡ answers fresh (take (breaks input) (linesOf input))
   pub keeper-is : k ≡ keeperThrough fresh (map inputOf (take (breaks input) (linesOf input)))

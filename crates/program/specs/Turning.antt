@@ -6,7 +6,7 @@ use Prim.Native.Nat.{ℕ, _+_, _≤_}
 use lib.ListN.{length, take, drop}
 use Rattle.reader.specs.Reading.{longestLine}
 use Rattle.stream.specs.Stream.{Turn}
-use Rattle.serve.specs.Serving.{keeperNext, IsAnswer}
+use Rattle.serve.specs.Serving.{keeperNext, answerTo}
 use Rattle.program.specs.declared.turn.Stream.{Stream}
 
 -- the bytes of a buffer from one place up to another
@@ -22,7 +22,7 @@ pub record InOrder (s : Stream) (buffer : List ℕ) : Type 0 where
 
 -- A turn over the bytes that were left and `got` bytes behind them.
 pub record Turned (s : Stream) (got : ℕ) (buffer out : List ℕ) (r : Stream) (buffer′ out′ : List ℕ) : Type 0 where
-  pub turn : Turn keeperNext IsAnswer longestLine (s .keeper) (between buffer (s .from) (s .end + got)) (r .keeper)
+  pub turn : Turn keeperNext answerTo longestLine (s .keeper) (between buffer (s .from) (s .end + got)) (r .keeper)
       (between buffer′ (r .from) (r .end)) (take (r .filled) out′) (r .full)
   pub beyond : drop (r .filled) out′ ≡ drop (r .filled) out
   pub filled : r .filled ≤ length out′

@@ -9,13 +9,13 @@ use lib.ListN.{length, take, drop, length-append, length-drop, drop-of-length-le
 use lib.Seq.{take-all, take-at, drop-at, drop-drop}
 use Rattle.keeper.specs.declared.Keeper.{Keeper}
 use Rattle.keeper.specs.declared.Answer.{Answer}
-use Rattle.line.specs.Call.{answered, keeperAfter, Wrote}
+use Rattle.line.specs.Call.{answered, keeperAfter, answerLine, Wrote}
 use Rattle.line.proofs.ResponseLaws.{wrote-within}
 use Rattle.lines.specs.Lines.{lf, breaks, lineLength, joined}
 use Rattle.lines.proofs.LineLaws.{joined-append, unbroken-append, line-whole, line-unbroken, whole-breaks, open-breaks}
-use Rattle.stream.specs.Stream.{through, Answers}
+use Rattle.stream.specs.Stream.{through, answersTo}
 use Rattle.stream.proofs.Answering.{through-append, answers-append}
-use Rattle.serve.specs.Serving.{keeperNext, IsAnswer, Answered, LinesAnswered}
+use Rattle.serve.specs.Serving.{keeperNext, answerTo, answers, Answered, LinesAnswered}
 use Rattle.writing.specs.Puts.{leastOutput}
 
 -- A line is answered: the keeper after it, and its answer at the front of an output that has room for one.
@@ -29,15 +29,13 @@ unfolding keeperAfter
 next-is k l = refl
 
 pub none-answered : (k : Keeper) (bytes out : List ℕ) → Answered k bytes out k bytes 0 out
-unfolding through joined
+unfolding through answersTo joined
 none-answered k bytes out =
     record {
       lines = [];
-      written = [];
       bytes-are = refl;
       whole = tt;
       keeper-is = refl;
-      answers = refl;
       output = refl;
       filled-is = refl;
     }
@@ -55,13 +53,15 @@ more-written w before out b filled e f =
 pub one-answered : (l more : List ℕ) {k now next : Keeper} {bytes before rest out part out′ : List ℕ} {filled n : ℕ}
     → Answered k bytes before now rest filled out → rest ≡ l ++ lf ∷ more → breaks l ≡ 0
     → Step now l (drop filled out) next part n → out′ ≡ take filled out ++ part → Answered k bytes before next more (filled + n) out′
-unfolding through joined
+unfolding through answersTo joined
 one-answered l more {k} {now} {next} {bytes} {before} {rest} {out} {part} {out′} {filled} {n} a here unbroken step e =
     let wrote = step .wrote in
-    let b = wrote .bytes in
+    let b = answerLine now l in
+    let more-answers : answers k (a .lines ++ l ∷ []) ≡ answers k (a .lines) ++ (b ++ lf ∷ []) =
+    answers-append keeperNext answerTo k (a .lines) (l ∷ []) ∙ rw (← a .keeper-is, append-nil (b ++ lf ∷ []))
+    in
     record {
       lines = a .lines ++ l ∷ [];
-      written = a .written ++ (b ++ lf ∷ []);
       bytes-are =
           a .bytes-are
           ∙ ap (λ (r : List ℕ). joined (a .lines) ++ r) here
@@ -72,16 +72,11 @@ one-answered l more {k} {now} {next} {bytes} {before} {rest} {out} {part} {out�
           ∙ next-is now l
           ∙ ap (λ (x : Keeper). keeperNext x l) (a .keeper-is)
           ∙ sym (through-append keeperNext k (a .lines) (l ∷ []));
-      answers =
-          answers-append keeperNext IsAnswer k (a .lines) (l ∷ []) (a .written) (b ++ lf ∷ []) (a .answers) (
-            b ++ lf ∷ [],
-            [],
-            rw (sym (a .keeper-is)) (record { bytes = b; line = wrote .line; ended = refl }),
-            refl,
-            sym (append-nil (b ++ lf ∷ [])),
-          );
-      output = e ∙ ap (λ (x : List ℕ). take filled out ++ x) (wrote .output) ∙ more-written (a .written) before out b filled (a .output) (a .filled-is);
-      filled-is = rw (length-append (a .written) (b ++ lf ∷ []), length-append b (lf ∷ [])) (omega (arith, a .filled-is, wrote .written));
+      output =
+          rw more-answers
+          (e ∙ ap (λ (x : List ℕ). take filled out ++ x) (wrote .output) ∙ more-written (answers k (a .lines)) before out b filled (a .output) (a .filled-is));
+      filled-is =
+          rw (more-answers, length-append (answers k (a .lines)) (b ++ lf ∷ []), length-append b (lf ∷ [])) (omega (arith, a .filled-is, wrote .written));
     }
 
 -- ---- in the buffers of the program

@@ -13,28 +13,29 @@ use Rattle.writing.specs.Puts.{leastOutput}
 use Rattle.reader.specs.Reading.{longestLine}
 use Rattle.lines.specs.Lines.{breaks}
 use Rattle.bits.proofs.Tests.{by-test}
-use Rattle.stream.specs.Stream.{Answers, Turn}
-use Rattle.serve.specs.Serving.{keeperNext, IsAnswer, Answered, LinesAnswered}
+use Rattle.stream.specs.Stream.{answersTo, Turn}
+use Rattle.serve.specs.Serving.{keeperNext, answerTo, answers, Answered, LinesAnswered}
 
 module _ {k next : Keeper} {bytes before rest after : List ℕ} {filled : ℕ} (a : Answered k bytes before next rest filled after) where
   -- the front of the output is what was written, and the rest is as it was
-  pub front-written : take filled after ≡ a .written
+  pub front-written : take filled after ≡ answers k (a .lines)
   front-written =
-      ap (λ (o : List ℕ). take filled o) (a .output) ∙ take-at (a .written) (drop (length (a .written)) before) filled (sym (a .filled-is))
+      ap (λ (o : List ℕ). take filled o) (a .output) ∙ take-at (answers k (a .lines)) (drop (length (answers k (a .lines))) before) filled (sym (a .filled-is))
 
   pub beyond-kept : drop filled after ≡ drop filled before
   beyond-kept =
       ap (λ (o : List ℕ). drop filled o) (a .output)
-      ∙ drop-at (a .written) (drop (length (a .written)) before) filled (sym (a .filled-is))
+      ∙ drop-at (answers k (a .lines)) (drop (length (answers k (a .lines))) before) filled (sym (a .filled-is))
       ∙ ap (λ (n : ℕ). drop n before) (sym (a .filled-is))
 
   pub filled-most : filled ≤ length after
-  filled-most = omega (arith, a .filled-is, ap length (a .output), length-append (a .written) (drop (length (a .written)) before))
+  filled-most = omega (arith, a .filled-is, ap length (a .output), length-append (answers k (a .lines)) (drop (length (answers k (a .lines))) before))
 
 -- what was written for no line is nothing
-some-line : (k : Keeper) (ls : List (List ℕ)) (o : List ℕ) → Answers keeperNext IsAnswer k ls o → 0 < length o → 0 < length ls
-some-line k [] o e h = absurd (omega (arith, ap length e))
-some-line k (l ∷ ls) o f h = omega arith
+some-line : (k : Keeper) (ls : List (List ℕ)) → 0 < length (answers k ls) → 0 < length ls
+unfolding answersTo
+some-line k [] h = absurd (omega arith)
+some-line k (l ∷ ls) h = omega arith
 
 -- an LF behind a place shows that the place lies within
 pub place-within : (s : List ℕ) (i : ℕ) → 0 < breaks (drop i s) → i < length s
@@ -47,24 +48,24 @@ place-within s i h =
 module _ {k next : Keeper} {bytes before rest after : List ℕ} {filled : ℕ} {full : Bool} where
   -- the output had no room left
   pub turned-full : LinesAnswered k bytes before next rest filled full after → full ≡ true → leastOutput ≤ length before
-      → Turn keeperNext IsAnswer longestLine k bytes next rest (take filled after) true
+      → Turn keeperNext answerTo longestLine k bytes next rest (take filled after) true
   turned-full l t room =
       let a = l .answered in
-      let some : 0 < length (a .written) = omega (arith, l .more t .1, a .filled-is) in
+      let some : 0 < length (answers k (a .lines)) = omega (arith, l .more t .1, a .filled-is) in
       record {
         lines = a .lines;
         rest = rest;
         bytes-are = a .bytes-are;
         whole = a .whole;
         state-is = a .keeper-is;
-        answers = rw (front-written a) (a .answers);
-        more = λ _. (refl, l .more t .0, some-line k (a .lines) (a .written) (a .answers) some);
+        answers = front-written a;
+        more = λ _. (refl, l .more t .0, some-line k (a .lines) some);
         held = λ f. absurd (let z : _≡_ {A = ℕ} 0 1 = cc in omega arith);
       }
 
   -- every whole line is answered
   pub turned-held : {left : List ℕ} → LinesAnswered k bytes before next rest filled full after → full ≡ false → left ≡ take (suc longestLine) rest
-      → Turn keeperNext IsAnswer longestLine k bytes next left (take filled after) false
+      → Turn keeperNext answerTo longestLine k bytes next left (take filled after) false
   turned-held l t e =
       let a = l .answered in
       record {
@@ -73,7 +74,7 @@ module _ {k next : Keeper} {bytes before rest after : List ℕ} {filled : ℕ} {
         bytes-are = a .bytes-are;
         whole = a .whole;
         state-is = a .keeper-is;
-        answers = rw (front-written a) (a .answers);
+        answers = front-written a;
         more = λ f. absurd (let z : _≡_ {A = ℕ} 0 1 = cc in omega arith);
         held = λ _. (e, l .done t);
       }

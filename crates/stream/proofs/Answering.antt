@@ -2,7 +2,7 @@
 use mathlib.Core.Path.{_≡_, refl}
 use mathlib.Core.List.{List, [], _∷_, _++_, append-assoc}
 use Prim.Native.Nat.{ℕ}
-use Rattle.stream.specs.Stream.{through, Answers, LongAlike}
+use Rattle.stream.specs.Stream.{through, answersTo, LongAlike}
 use Rattle.stream.proofs.Alike.{Alike, none, same, long}
 
 module _ {S : Type 0} (next : S → List ℕ → S) where
@@ -12,16 +12,15 @@ module _ {S : Type 0} (next : S → List ℕ → S) where
   through-append s [] vs = refl
   through-append s (u ∷ us) vs = through-append (next s u) us vs
 
-module _ {S : Type 0} (next : S → List ℕ → S) (Answer : S → List ℕ → List ℕ → Type 0) where
-  -- Answers to lines and, from the state that these leave, answers to more lines are answers to all of them.
-  pub answers-append : (s : S) (us vs : List (List ℕ)) (o p : List ℕ)
-      → Answers next Answer s us o → Answers next Answer (through next s us) vs p → Answers next Answer s (us ++ vs) (o ++ p)
-  unfolding through
-  answers-append s [] vs o p e h = rw e h
-  answers-append s (u ∷ us) vs o p f h =
-      (f .0, f .1 ++ p, f .2, answers-append (next s u) us vs (f .1) p (f .3) h, rw (f .4, append-assoc))
+module _ {S : Type 0} (next : S → List ℕ → S) (answer : S → List ℕ → List ℕ) where
+  -- The answers to lines and more lines are those to the first and then, from the state that these leave, those to the others.
+  pub answers-append : (s : S) (us vs : List (List ℕ))
+      → answersTo next answer s (us ++ vs) ≡ answersTo next answer s us ++ answersTo next answer (through next s us) vs
+  unfolding through answersTo
+  answers-append s [] vs = refl
+  answers-append s (u ∷ us) vs = rw (answers-append (next s u) us vs, append-assoc)
 
-module _ {S : Type 0} (next : S → List ℕ → S) (Answer : S → List ℕ → List ℕ → Type 0) (most : ℕ) (alike : LongAlike next Answer most) where
+module _ {S : Type 0} (next : S → List ℕ → S) (answer : S → List ℕ → List ℕ) (most : ℕ) (alike : LongAlike next answer most) where
   -- Lines that are alike leave the same state.
   pub through-alike : (s : S) {us vs : List (List ℕ)} → Alike most us vs → through next s us ≡ through next s vs
   unfolding through
@@ -29,10 +28,9 @@ module _ {S : Type 0} (next : S → List ℕ → S) (Answer : S → List ℕ →
   through-alike s (same {a} p) = through-alike (next s a) p
   through-alike s (long {a} {b} h k p) = rw (alike s a b h k .0) (through-alike (next s b) p)
 
-  -- Answers to lines are answers to lines that are alike to those.
-  pub answers-alike : (s : S) {us vs : List (List ℕ)} (o : List ℕ) → Alike most us vs
-      → Answers next Answer s us o → Answers next Answer s vs o
-  answers-alike s o none f = f
-  answers-alike s o (same {a} p) f = (f .0, f .1, f .2, answers-alike (next s a) (f .1) p (f .3), f .4)
-  answers-alike s o (long {a} {b} h k p) f =
-      (f .0, f .1, alike s a b h k .1 (f .0) (f .2), answers-alike (next s b) (f .1) p (rw (alike s a b h k .0) at (f .3)), f .4)
+  -- Lines that are alike have the same answers.
+  pub answers-alike : (s : S) {us vs : List (List ℕ)} → Alike most us vs → answersTo next answer s us ≡ answersTo next answer s vs
+  unfolding answersTo
+  answers-alike s none = refl
+  answers-alike s (same {a} p) = rw (answers-alike (next s a) p)
+  answers-alike s (long {a} {b} h k p) = let (state, bytes) = alike s a b h k in rw (state, bytes, answers-alike (next s b) p)

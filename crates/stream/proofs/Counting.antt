@@ -11,8 +11,8 @@ use Rattle.stream.specs.Stream.{Turn}
 use Rattle.stream.proofs.Splitting.{take-unbroken}
 use Rattle.bits.proofs.Tests.{by-test}
 
-module _ {S : Type 0} {next : S → List ℕ → S} {Answer : S → List ℕ → List ℕ → Type 0} {most : ℕ} where
-  module _ {s s′ : S} {bytes left o : List ℕ} {full : Bool} (t : Turn next Answer most s bytes s′ left o full) where
+module _ {S : Type 0} {next : S → List ℕ → S} {answer : S → List ℕ → List ℕ} {most : ℕ} where
+  module _ {s s′ : S} {bytes left o : List ℕ} {full : Bool} (t : Turn next answer most s bytes s′ left o full) where
     -- The LFs of a turn's bytes are those of its lines and of the rest.
     pub turn-breaks : breaks bytes ≡ length (t .lines) + breaks (t .rest)
     turn-breaks = rw (t .bytes-are, breaks-append (joined (t .lines)) (t .rest), breaks-joined (t .lines) (t .whole))

@@ -34,10 +34,10 @@ ending-most (b ∷ bs) = omega arith
 whole-front : (us vs ws : List (List ℕ)) → us ++ vs ≡ ws → length us ≡ length ws → us ≡ ws
 whole-front us vs ws e h = sym (take-append-seam us vs) ∙ rw (e, h) (take-length ws)
 
-module _ {S : Type 0} {next : S → List ℕ → S} {Answer : S → List ℕ → List ℕ → Type 0} {most : ℕ} where
+module _ {S : Type 0} {next : S → List ℕ → S} {answer : S → List ℕ → List ℕ} {most : ℕ} where
   -- The lines that the last turn answers are the lines of what was left.
   pub last-lines : {s s′ : S} (left : List ℕ) {left′ o : List ℕ} {full : Bool}
-      (t : Turn next Answer most s (left ++ ending left) s′ left′ o full)
+      (t : Turn next answer most s (left ++ ending left) s′ left′ o full)
       → breaks left ≡ 0 → t .lines ≡ linesOf left
   last-lines left t e =
       let all : breaks (left ++ ending left) ≡ breaks (ending left) = rw (breaks-append left (ending left), e) (omega arith) in

@@ -7,7 +7,7 @@ use native.Mathlib.Omega.{arith}
 use lib.ListN.{length, length-append}
 use Rattle.lines.specs.Lines.{breaks, linesOf, joined}
 use Rattle.lines.proofs.LineLaws.{breaks-append}
-use Rattle.stream.specs.Stream.{through, Answers, Turn, Step, allGot, allWritten, Turns}
+use Rattle.stream.specs.Stream.{through, answersTo, Turn, Step, allGot, allWritten, Turns}
 use Rattle.stream.proofs.Alike.{Alike, alike-refl, alike-trans, alike-behind}
 use Rattle.stream.proofs.Splitting.{lines-joined}
 use Rattle.stream.proofs.Trimming.{trimmed-alike}
@@ -15,8 +15,8 @@ use Rattle.stream.proofs.Counting.{turn-unbroken, turn-count}
 use Rattle.stream.proofs.Answering.{through-append, answers-append}
 use Rattle.bits.proofs.Tests.{by-test}
 
-module _ {S : Type 0} (next : S → List ℕ → S) (Answer : S → List ℕ → List ℕ → Type 0) (most : ℕ) where
-  module _ {s s′ : S} {bytes left o : List ℕ} {full : Bool} (t : Turn next Answer most s bytes s′ left o full) (m : List ℕ) where
+module _ {S : Type 0} (next : S → List ℕ → S) (answer : S → List ℕ → List ℕ) (most : ℕ) where
+  module _ {s s′ : S} {bytes left o : List ℕ} {full : Bool} (t : Turn next answer most s bytes s′ left o full) (m : List ℕ) where
     -- Whatever is read next: the lines of what a turn leaves are alike to those of the rest.
     left-alike : Alike most (linesOf (left ++ m)) (linesOf (t .rest ++ m))
     left-alike =
@@ -34,14 +34,14 @@ module _ {S : Type 0} (next : S → List ℕ → S) (Answer : S → List ℕ →
   -- lines of all bytes. Every LF read ends one of the lines answered, or is left.
   pub record Answered (s : S) (left : List ℕ) (steps : List Step) (s′ : S) (left′ : List ℕ) : Type 0 where
     pub lines : List (List ℕ)
-    pub answers : Answers next Answer s lines (allWritten steps)
+    pub answers : allWritten steps ≡ answersTo next answer s lines
     pub state-is : s′ ≡ through next s lines
     pub all-lines : (m : List ℕ) → Alike most (lines ++ linesOf (left′ ++ m)) (linesOf (left ++ allGot steps ++ m))
     pub count : length lines + breaks left′ ≡ breaks (left ++ allGot steps)
 
   -- No turn at all answers no line.
   no-turn : {s s′ : S} {left left′ : List ℕ} → s′ ≡ s → left′ ≡ left → Answered s left [] s′ left′
-  unfolding through
+  unfolding through answersTo
   no-turn {left} e l = record {
     lines = [];
     answers = refl;
@@ -52,11 +52,11 @@ module _ {S : Type 0} (next : S → List ℕ → S) (Answer : S → List ℕ →
 
   -- A turn, and the turns after it.
   one-turn : {s s₁ s′ : S} {left left₁ left′ : List ℕ} {full₁ : Bool} (x : Step) (xs : List Step)
-      → Turn next Answer most s (left ++ x .got) s₁ left₁ (x .wrote) full₁ → Answered s₁ left₁ xs s′ left′
+      → Turn next answer most s (left ++ x .got) s₁ left₁ (x .wrote) full₁ → Answered s₁ left₁ xs s′ left′
       → Answered s left (x ∷ xs) s′ left′
   one-turn {s} {left} {left₁} {left′} x xs t r = record {
     lines = t .lines ++ r .lines;
-    answers = answers-append next Answer s (t .lines) (r .lines) (x .wrote) (allWritten xs) (t .answers) (rw (← t .state-is) (r .answers));
+    answers = rw (answers-append next answer s (t .lines) (r .lines), t .answers, r .answers, t .state-is);
     state-is = r .state-is ∙ rw (t .state-is, through-append next s (t .lines) (r .lines));
     all-lines =
         λ m.
@@ -71,14 +71,14 @@ module _ {S : Type 0} (next : S → List ℕ → S) (Answer : S → List ℕ →
 
   -- Turns, however many, answer lines.
   pub turns-answered : (s : S) (left : List ℕ) (full : Bool) (steps : List Step) (s′ : S) (left′ : List ℕ) (full′ : Bool)
-      → Turns next Answer most s left full steps s′ left′ full′ → Answered s left steps s′ left′
+      → Turns next answer most s left full steps s′ left′ full′ → Answered s left steps s′ left′
   turns-answered s left full [] s′ left′ full′ h = no-turn (h .0) (h .1)
   turns-answered s left full (x ∷ xs) s′ left′ full′ h =
       one-turn x xs (h .3) (turns-answered (h .0) (h .1) (h .2) xs s′ left′ full′ (h .4))
 
   -- No LF is left by turns whose last one had room left.
   pub turns-unbroken : (s : S) (left : List ℕ) (full : Bool) (steps : List Step) (s′ : S) (left′ : List ℕ) (full′ : Bool)
-      → Turns next Answer most s left full steps s′ left′ full′
+      → Turns next answer most s left full steps s′ left′ full′
       → (full ≡ false → breaks left ≡ 0) → full′ ≡ false → breaks left′ ≡ 0
   turns-unbroken s left full [] s′ left′ full′ h u e = rw (h .1) (u (rw (h .2) at e))
   turns-unbroken s left full (x ∷ xs) s′ left′ full′ h u e =

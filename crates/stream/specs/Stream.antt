@@ -12,11 +12,11 @@ unfoldable pub through : {S : Type 0} → (S → List ℕ → S) → S → List 
 through next s [] = s
 through next s (l ∷ ls) = through next (next s l) ls
 
-module _ {S : Type 0} (next : S → List ℕ → S) (Answer : S → List ℕ → List ℕ → Type 0) where
-  -- The bytes are the answers to the lines, in turn: each is an answer in the state that the lines before it left.
-  abbrev pub Answers : S → List (List ℕ) → List ℕ → Type 0
-  Answers s [] o = o ≡ []
-  Answers s (l ∷ ls) o = (a : List ℕ) × (rest : List ℕ) × Answer s l a × Answers (next s l) ls rest × (o ≡ a ++ rest)
+module _ {S : Type 0} (next : S → List ℕ → S) (answer : S → List ℕ → List ℕ) where
+  -- The answers to lines, in turn: each is that in the state which the lines before it left.
+  unfoldable pub answersTo : S → List (List ℕ) → List ℕ
+  answersTo s [] = []
+  answersTo s (l ∷ ls) = answer s l ++ answersTo (next s l) ls
 
   -- One turn over bytes: the lines answered are those at the front, each ended by its LF; `o` was written. Where the output had no room left
   -- for one more answer (`full`), a line was answered, and a whole line is left with all that follows it. Otherwise no LF is left, and of
@@ -27,7 +27,7 @@ module _ {S : Type 0} (next : S → List ℕ → S) (Answer : S → List ℕ →
     pub bytes-are : bytes ≡ joined lines ++ rest
     pub whole : Unbroken lines
     pub state-is : s′ ≡ through next s lines
-    pub answers : Answers s lines o
+    pub answers : o ≡ answersTo s lines
     pub more : full ≡ true → (left ≡ rest) × (0 < breaks rest) × (0 < length lines)
     pub held : full ≡ false → (left ≡ take (suc most) rest) × (breaks rest ≡ 0)
 
@@ -49,13 +49,13 @@ abbrev pub ending : List ℕ → List ℕ
 ending [] = []
 ending (b ∷ bs) = lf ∷ []
 
-module _ {S : Type 0} (next : S → List ℕ → S) (Answer : S → List ℕ → List ℕ → Type 0) (most : ℕ) where
+module _ {S : Type 0} (next : S → List ℕ → S) (answer : S → List ℕ → List ℕ) (most : ℕ) where
   -- Turns one after the other: each has what the one before it left, and what was read.
   abbrev pub Turns : S → List ℕ → Bool → List Step → S → List ℕ → Bool → Type 0
   Turns s left full [] s′ left′ full′ = (s′ ≡ s) × (left′ ≡ left) × (full′ ≡ full)
   Turns s left full (x ∷ xs) s′ left′ full′ =
       (s₁ : S) × (left₁ : List ℕ) × (full₁ : Bool)
-      × Turn next Answer most s (left ++ x .got) s₁ left₁ (x .wrote) full₁
+      × Turn next answer most s (left ++ x .got) s₁ left₁ (x .wrote) full₁
       × Turns s₁ left₁ full₁ xs s′ left′ full′
 
   -- A whole run from a state: the turns, and one more when the input has ended, which is seen only where no whole line waits.
@@ -65,14 +65,14 @@ module _ {S : Type 0} (next : S → List ℕ → S) (Answer : S → List ℕ →
     pub turns : Turns s [] false steps before left false
     pub after : List ℕ
     pub full : Bool
-    pub ended : Turn next Answer most before (left ++ ending left) s′ after last full
+    pub ended : Turn next answer most before (left ++ ending left) s′ after last full
 
   -- Every two lines of more than `most` bytes are answered alike and leave the same state.
   abbrev pub LongAlike : Type 0
-  LongAlike = (s : S) (a b : List ℕ) → most < length a → most < length b → (next s a ≡ next s b) × ((o : List ℕ) → Answer s a o → Answer s b o)
+  LongAlike = (s : S) (a b : List ℕ) → most < length a → most < length b → (next s a ≡ next s b) × (answer s a ≡ answer s b)
 
   -- However the input was cut into reads: what was written is the answers to the lines of the input, in turn, and the state is that of the
   -- lines.
   pub record AnswersTheInput (s : S) (steps : List Step) (last : List ℕ) (s′ : S) : Type 0 where
-    pub written : Answers next Answer s (linesOf (allGot steps)) (allWritten steps ++ last)
+    pub written : allWritten steps ++ last ≡ answersTo next answer s (linesOf (allGot steps))
     pub state : s′ ≡ through next s (linesOf (allGot steps))

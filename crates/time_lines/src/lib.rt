@@ -8,6 +8,7 @@ ghost use Rattle.text.specs.Words.{bytes};
 ghost use Rattle.numeral.specs.Digits.{digits};
 ghost use Rattle.writing.specs.Puts.{Puts};
 ghost use Rattle.keeper.specs.declared.Answer.the-variants.{Time};
+ghost use Rattle.keeper.specs.declared.Keeper.{Keeper};
 ghost use Rattle.answers.specs.Answers.{lineOf};
 ghost use Rattle.answers.specs.Writing.{PutShort};
 
@@ -32,7 +33,7 @@ pub fn time_line(
     conflicts: u32,
     waiting: u32,
 ) -> usize
-    ensures { λ r. ⌜ PutShort (now (out .entry)) at (lineOf (Time edges centre error conflicts waiting)) (now (out .exit)) r ⌝ }
+    ensures { λ r. ⌜ ((k : Keeper) → PutShort (now (out .entry)) at (lineOf (Time edges centre error conflicts waiting) k) (now (out .exit)) r) ⌝ }
 {
     let at = put_bytes(out, at, b"(time (");
     let at = put_signed(out, at, edges.lower);

@@ -17,6 +17,10 @@ infixl 50 _then_
 pub one-put : {b s a : List ℕ} {at n : ℕ} → Put b at s a n → Puts b at s a n
 one-put p = record { put = λ h. p }
 
+-- the bytes put, grouped another way
+pub puts-same : {b s t a : List ℕ} {at n : ℕ} → Puts b at s a n → s ≡ t → Puts b at t a n
+puts-same p e = rw e at p
+
 -- no bytes are put by doing nothing
 pub nothing : (b : List ℕ) (at : ℕ) → Puts b at [] b at
 nothing b at = record { put = λ h. room-put h (sym (rw append-nil (ap (λ (i : ℕ). take at b ++ drop i b) (add-zero at) ∙ take-append-drop at b))) (omega arith) }

@@ -1,11 +1,8 @@
 -- `answer_writer::put_answer` meets its contract: in each arm the answer is the case that the line is of.
-use mathlib.Core.Path.{refl}
 use borrow.Author.Needs.{needs}
 use Rattle.moment.proofs.Integers.{got}
-use Rattle.answers.specs.Answers.{waitingLine}
-use Rattle.answers.specs.Writing.{waitersBelow}
 use Rattle.answers.proofs.LineLaws.{by-line}
-use Rattle.answers.proofs.WaitersLaws.{each-once, waiting-most}
+use Rattle.answers.proofs.WaitersLaws.{list-put}
 use Rattle.answer_writer.proofs.put_answer.Statement.{statement}
 use Rattle.answer_writer.proofs.put_answer.Tie as tie
 
@@ -67,31 +64,31 @@ same-length : tie.Need-same-length
 same-length c = search needs
 
 returns : tie.Need-returns
-returns c = by-line (c .before .before .before .before .before .answer .given .1) refl (c .before .before .started-line .ensures)
+returns c = by-line (c .before .before .before .before .before .answer .given .1) (c .before .before .started-line .ensures)
 
 same-length-2 : tie.Need-same-length-2
 same-length-2 c = search needs
 
 returns-2 : tie.Need-returns-2
-returns-2 c = by-line (c .before .before .before .before .before .answer2 .given .1) refl (c .before .before .at-line .ensures)
+returns-2 c = by-line (c .before .before .before .before .before .answer2 .given .1) (c .before .before .at-line .ensures)
 
 same-length-3 : tie.Need-same-length-3
 same-length-3 c = search needs
 
 returns-3 : tie.Need-returns-3
-returns-3 c = by-line (c .before .before .before .before .before .answer3 .given .1) refl (c .before .before .sent-line .ensures)
+returns-3 c = by-line (c .before .before .before .before .before .answer3 .given .1) (c .before .before .sent-line .ensures)
 
 same-length-4 : tie.Need-same-length-4
 same-length-4 c = search needs
 
 returns-4 : tie.Need-returns-4
-returns-4 c = by-line (c .before .before .before .before .before .answer4 .given .1) refl (c .before .before .replied-line .ensures)
+returns-4 c = by-line (c .before .before .before .before .before .answer4 .given .1) (c .before .before .replied-line .ensures)
 
 same-length-5 : tie.Need-same-length-5
 same-length-5 c = search needs
 
 returns-5 : tie.Need-returns-5
-returns-5 c = by-line (c .before .before .before .before .before .answer5 .given .1) refl (c .before .before .dropped-line .ensures)
+returns-5 c = by-line (c .before .before .before .before .before .answer5 .given .1) (c .before .before .dropped-line .ensures)
 
 same-length-6 : tie.Need-same-length-6
 same-length-6 c = search needs
@@ -101,7 +98,7 @@ returns-6 c =
     let a = c .before .before .before .before .before .answer6 .given in
     let t = c .before .before .before .before .known-told6 .given in
     let f = c .before .before .time-line .ensures in
-    by-line (a .1) refl (rw (got (a .0 .1 .0) (t .1 .0 .1), got (a .0 .1 .1 .0) (t .1 .1 .0 .1)) at f)
+    by-line (a .1) (rw (got (a .0 .1 .0) (t .1 .0 .1), got (a .0 .1 .1 .0) (t .1 .1 .0 .1)) at f)
 
 same-length-7 : tie.Need-same-length-7
 same-length-7 c = search needs
@@ -110,24 +107,19 @@ returns-7 : tie.Need-returns-7
 returns-7 c =
     let k = c .before .before .before .before .before .before .before .before .before .args .keeper in
     let is = c .before .before .before .before .before .before .enum-told .given .1 in
-    record {
-      bytes = waitingLine (k .tags) (waitersBelow (k .waiting) 16);
-      line = rw is (waitersBelow (k .waiting) 16, each-once (k .waiting), refl);
-      puts = c .before .before .waiting-line .ensures;
-      short = λ h. waiting-most k (h is);
-    }
+    record { put = λ h. rw is (list-put k (h is) (c .before .before .waiting-line .ensures)) }
 
 same-length-8 : tie.Need-same-length-8
 same-length-8 c = search needs
 
 returns-8 : tie.Need-returns-8
-returns-8 c = by-line (c .before .before .before .before .before .answer7 .given .1) refl (c .before .before .heater-line .ensures)
+returns-8 c = by-line (c .before .before .before .before .before .answer7 .given .1) (c .before .before .heater-line .ensures)
 
 same-length-9 : tie.Need-same-length-9
 same-length-9 c = search needs
 
 returns-9 : tie.Need-returns-9
-returns-9 c = by-line (c .before .before .before .before .before .answer8 .given .1) refl (c .before .before .put-refusal .ensures)
+returns-9 c = by-line (c .before .before .before .before .before .answer8 .given .1) (c .before .before .put-refusal .ensures)
 
 pub put-answer-spec : {M : Type 1} → statement M
 put-answer-spec =

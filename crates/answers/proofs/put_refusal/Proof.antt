@@ -22,7 +22,7 @@ same-length c = search needs
 
 returns : tie.Need-returns
 unfolding lineOf
-returns c =
+returns c k =
     let word = c .before .before .before in
     let start = word .before .before .before .before .before in
     let one = digits-one (start .args .n) (word .before .before .before .if1 .taken) in
@@ -51,7 +51,7 @@ same-length-2 c =
 
 returns-2 : tie.Need-returns-2
 unfolding lineOf
-returns-2 c =
+returns-2 c k =
     let end = c .before .before in
     let test = end .before .before .before in
     let word = test .before .before .before in
@@ -80,7 +80,7 @@ same-length-3 c = search needs
 
 returns-3 : tie.Need-returns-3
 unfolding lineOf
-returns-3 c =
+returns-3 c k =
     let p3 = c .before .before in
     let p2 = p3 .before .before .before .before .before in
     let p1 = p2 .before .before .before .before in

@@ -4,9 +4,8 @@ use native.Mathlib.Omega.{arith}
 use borrow.Author.Needs.{needs}
 use lib.ListN.{length-append}
 use Rattle.numeral.proofs.Digits.{digits-most}
-use Rattle.writing.proofs.PutsLaws.{one-put, _then_}
+use Rattle.writing.proofs.PutsLaws.{one-put, _then_, puts-same}
 use Rattle.answers.specs.Answers.{lineOf}
-use Rattle.answers.proofs.LineLaws.{puts-same}
 use Rattle.answers.proofs.sent_line.Statement.{statement}
 use Rattle.answers.proofs.sent_line.Tie as tie
 
@@ -39,7 +38,7 @@ same-length c = search needs
 
 returns : tie.Need-returns
 unfolding lineOf
-returns c =
+returns c k =
     let p5 = c .before .before in
     let p4 = p5 .before .before .before .before .before in
     let p3 = p4 .before .before .before .before in

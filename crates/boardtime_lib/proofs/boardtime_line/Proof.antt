@@ -71,7 +71,7 @@ same-length-4 c = search needs
 returns-3 : tie.Need-returns-3
 returns-3 c =
     let a = c .before .before .before .before .answer-command in
-    line-command _ (whole (c .before .before .before .before .before .before .before .before .before .before .before .before)) (c .before .before .before .before .before .before .before .before .before .before .before .if2 .left) (a .kept .1 .1 .0) (sym (c .before .before .before .before .before .before .before .before .before .before .read-command .ensures) ∙ c .before .before .before .before .before .before .before .before .reading .given .1) (a .ensures)
+    line-command _ (whole (c .before .before .before .before .before .before .before .before .before .before .before .before)) (c .before .before .before .before .before .before .before .before .before .before .before .if2 .left) (sym (c .before .before .before .before .before .before .before .before .before .before .read-command .ensures) ∙ c .before .before .before .before .before .before .before .before .reading .given .1) (a .ensures)
 
 same-length-5 : tie.Need-same-length-5
 same-length-5 c = search needs
@@ -83,7 +83,7 @@ returns-4 : tie.Need-returns-4
 returns-4 c =
     let w = c .before .before .before .write-refusal in
     rw (c .returned .ensures)
-    (line-no-shape _ (whole (c .before .before .before .before .before .before .before .before .before)) (c .before .before .before .before .before .before .before .before .if2 .left) (w .kept .0) (sym (c .before .before .before .before .before .before .before .read-command .ensures) ∙ c .before .before .before .before .before .enum-told .given .1) (w .ensures))
+    (line-no-shape _ (whole (c .before .before .before .before .before .before .before .before .before)) (c .before .before .before .before .before .before .before .before .if2 .left) (sym (c .before .before .before .before .before .before .before .read-command .ensures) ∙ c .before .before .before .before .before .enum-told .given .1) (w .ensures))
 
 same-length-7 : tie.Need-same-length-7
 same-length-7 c = search needs
@@ -95,7 +95,7 @@ returns-5 : tie.Need-returns-5
 returns-5 c =
     let w = c .before .before .before .write-refusal2 in
     rw (c .returned2 .ensures)
-    (line-outside _ (whole (c .before .before .before .before .before .before .before .before .before)) (c .before .before .before .before .before .before .before .before .if2 .left) (w .kept .0) (sym (c .before .before .before .before .before .before .before .read-command .ensures) ∙ c .before .before .before .before .before .enum-told2 .given .1) (w .ensures))
+    (line-outside _ (whole (c .before .before .before .before .before .before .before .before .before)) (c .before .before .before .before .before .before .before .before .if2 .left) (sym (c .before .before .before .before .before .before .before .read-command .ensures) ∙ c .before .before .before .before .before .enum-told2 .given .1) (w .ensures))
 
 pub boardtime-line-spec : {M : Type 1} → statement M
 boardtime-line-spec =

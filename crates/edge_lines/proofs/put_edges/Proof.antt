@@ -7,9 +7,8 @@ use Rattle.text.proofs.OutputLaws.{put-same}
 use Rattle.numeral.specs.Digits.{signedDigits}
 use Rattle.numeral.proofs.Digits.{digits-most}
 use Rattle.moment.proofs.Integers.{got}
-use Rattle.writing.proofs.PutsLaws.{one-put, _then_, pair-most}
+use Rattle.writing.proofs.PutsLaws.{one-put, _then_, pair-most, puts-same}
 use Rattle.answers.specs.Answers.{edgesLine}
-use Rattle.answers.proofs.LineLaws.{puts-same}
 use Rattle.edge_lines.proofs.EdgeLaws.{edges-parts}
 use Rattle.edge_lines.proofs.put_edges.Statement.{statement}
 use Rattle.edge_lines.proofs.put_edges.Tie as tie

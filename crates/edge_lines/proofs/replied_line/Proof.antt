@@ -16,7 +16,7 @@ same-length c = search needs
 
 returns : tie.Need-returns
 unfolding lineOf
-returns c =
+returns c k =
     let p2 = c .before .before in
     let p1 = p2 .before .before .before .before in
     let x = p1 .before .before .before .before .args in

@@ -9,9 +9,8 @@ use Rattle.text.proofs.OutputLaws.{put-same}
 use Rattle.numeral.specs.Digits.{signedDigits}
 use Rattle.numeral.proofs.Digits.{digits-most}
 use Rattle.moment.proofs.Integers.{got}
-use Rattle.writing.proofs.PutsLaws.{one-put, _then_, pair-most}
+use Rattle.writing.proofs.PutsLaws.{one-put, _then_, pair-most, puts-same}
 use Rattle.answers.specs.Answers.{lineOf}
-use Rattle.answers.proofs.LineLaws.{puts-same}
 use Rattle.time_lines.proofs.TimeLaws.{time-parts}
 use Rattle.time_lines.proofs.time_line.Statement.{statement}
 use Rattle.time_lines.proofs.time_line.Tie as tie
@@ -78,7 +77,7 @@ same-length c =
 
 returns : tie.Need-returns
 unfolding lineOf
-returns c =
+returns c k =
     let p9 = c .before .before in
     let p8 = p9 .before .before .before .before in
     let p7 = p8 .before .before .before .before in
