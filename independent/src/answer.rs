@@ -1,9 +1,11 @@
 //! The calls as a caller makes them: with a line, or a pass with a number.
 
+use core::array;
+
 use crate::calls::Outcome;
 use crate::command::{Command, Reply, Start};
 use crate::keeper::Keeper;
-use crate::limits::{MAX_PASS, MIN_OUTPUT};
+use crate::limits::{BOARDS, MAX_PASS, MIN_OUTPUT};
 use crate::refusal::Refusal;
 use crate::window::{Window, WindowState};
 use crate::writer::Writer;
@@ -168,20 +170,25 @@ fn write_time(keeper: &Keeper, writer: &mut Writer) {
     writer.text(b")\n");
 }
 
-/// `(waiting (PEER TAG) ...)` in ascending order of the peers
+/// `(waiting (PEER TAG) ...)`: "The list now runs by tag, smallest first."
 fn write_waiting(keeper: &Keeper, writer: &mut Writer) {
     writer.text(b"(waiting");
-    let mut rest = keeper.waiting;
-    while rest != 0 {
-        let peer = rest.trailing_zeros();
-        rest &= rest - 1; // clears the lowest bit
+    for peer in waiting_by_tag(keeper) {
         writer.text(b" (");
         writer.count(u64::from(peer));
         writer.text(b" ");
-        writer.count(u64::from(keeper.tags[peer as usize]));
+        writer.count(u64::from(keeper.tags[usize::from(peer)]));
         writer.text(b")");
     }
     writer.text(b")\n");
+}
+
+/// The waiting peers in ascending order of their tags. No two of these tags
+/// are equal in a keeper that counts as started, so there is only one order.
+fn waiting_by_tag(keeper: &Keeper) -> impl Iterator<Item = u8> + '_ {
+    let mut peers: [u8; BOARDS] = array::from_fn(|peer| peer as u8);
+    peers.sort_unstable_by_key(|&peer| keeper.tags[usize::from(peer)]);
+    peers.into_iter().filter(|&peer| keeper.waits(peer))
 }
 
 /// `(open SLOT)`, or the same with `shut` or `unsure`: "Windows use told

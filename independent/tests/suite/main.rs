@@ -21,6 +21,7 @@ mod refusals;
 mod round_trips;
 mod shapes;
 mod true_time;
+mod waiting;
 mod windows;
 mod words;
 mod written_forms;

@@ -69,6 +69,16 @@ fn windows() {
 }
 
 #[test]
+fn the_oldest_request_first() {
+    assert_run(
+        b"(waiting)\n(start 3 im 0 (0 0))\n(waiting)\n(request 9)\n(request 4)\n(waiting)\n\
+        (drop 9)\n(waiting)\n(request 9)\n(waiting)\n",
+        "(no 3)\n(started 3)\n(waiting)\n(sent 9 1)\n(sent 4 2)\n(waiting (9 1) (4 2))\n\
+        (dropped 9)\n(waiting (4 2))\n(sent 9 3)\n(waiting (4 2) (9 3))\n",
+    );
+}
+
+#[test]
 fn empty_and_unfinished_lines() {
     assert_run(b"", "");
     assert_run(b"\n", "(no 1)\n");
