@@ -29,7 +29,8 @@ struct Input {
 }
 
 /// Writes an input of this kind: a start, requests to the first `waiting`
-/// peers, and the lines of the kind.
+/// peers, and the lines of the kind. Where peers are listed, requests go back
+/// and forth over them, so that tags and peers are in different orders.
 pub fn write(kind: &str, waiting: u64, lines: u64) -> Result<(), Box<dyn Error>> {
     let mut input = Input {
         random: Random::new(SEED),
@@ -42,10 +43,13 @@ pub fn write(kind: &str, waiting: u64, lines: u64) -> Result<(), Box<dyn Error>>
         "passes" => Input::passes,
         "refused" => Input::refused,
         "mix" => Input::mix,
+        "lists" => Input::lists,
         _ => return Err(format!("no kind {kind}").into()),
     };
     input.line(START)?;
+    let stride = if kind == "lists" { 7 } else { 1 };
     for peer in (0..PEERS)
+        .map(|n| stride * n % PEERS)
         .filter(|&peer| peer != BOARD)
         .take(waiting as usize)
     {
@@ -122,6 +126,10 @@ impl Input {
             93..=95 => self.line(&format!("(drop {peer})")),
             _ => self.refused(),
         }
+    }
+
+    fn lists(&mut self) -> io::Result<()> {
+        self.line("(waiting)")
     }
 
     /// Mostly taken, with a lower edge that moves nothing, so that edges are the

@@ -13,7 +13,7 @@ use std::error::Error;
 use std::process::ExitCode;
 
 const USAGE: &str = "usage:
-  bench generate replies|passes|refused|mix WAITING LINES    writes an input
+  bench generate replies|passes|refused|mix|lists WAITING LINES    writes an input
   bench calls library|image|keeper FILE     makes the calls once, to be counted
   bench time-calls ROUNDS FILE              best times of the three in ns
   bench time-programs ROUNDS FILE PROGRAM...  best time of each in ns";

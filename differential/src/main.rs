@@ -17,6 +17,7 @@ mod fitting;
 mod kinds;
 mod lent;
 mod limits;
+mod listing;
 mod program;
 mod random;
 mod spelling;

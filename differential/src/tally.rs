@@ -4,6 +4,7 @@ use crate::answer::word;
 use crate::bracketing::BracketTally;
 use crate::convert::ConvertTally;
 use crate::limits::LAST_PASS;
+use crate::listing::ListTally;
 use crate::program::ProgramTally;
 use crate::spelling::SpellingTally;
 use crate::touching::TouchTally;
@@ -54,6 +55,7 @@ pub struct Tally {
     pub spellings: SpellingTally,
     pub touching: TouchTally,
     pub bracketing: BracketTally,
+    pub listing: ListTally,
     pub conversions: ConvertTally,
     pub writes: WriteTally,
     pub program: ProgramTally,
@@ -72,6 +74,7 @@ impl Tally {
             spellings: SpellingTally::new(),
             touching: TouchTally::default(),
             bracketing: BracketTally::default(),
+            listing: ListTally::default(),
             conversions: ConvertTally::new(),
             writes: WriteTally::new(),
             program: ProgramTally::new(),
@@ -157,6 +160,7 @@ impl Tally {
         self.spellings.print();
         self.touching.print();
         self.bracketing.print();
+        self.listing.print();
         self.program.print();
     }
 
@@ -185,6 +189,7 @@ impl Tally {
         missing.extend(self.spellings.missing(ENOUGH));
         missing.extend(self.touching.missing(ENOUGH));
         missing.extend(self.bracketing.missing(ENOUGH));
+        missing.extend(self.listing.missing(ENOUGH));
         missing.extend(self.conversions.missing(ENOUGH));
         missing.extend(self.writes.missing(ENOUGH));
         missing.extend(self.program.missing(ENOUGH));

@@ -5,7 +5,6 @@ use std::process;
 
 use boardtime::image as library;
 
-use crate::answer;
 use crate::lent::{Lent, Pattern, PLACES, WHOLE};
 use crate::program::Program;
 use crate::random::Random;
@@ -190,8 +189,7 @@ impl Outcome {
         if self.library_returned.length != length {
             return Err("the lengths of the answers differ");
         }
-        let left = &self.library.out.bytes()[..length];
-        if !answer::same(left, &self.independent.out.bytes()[..length]) {
+        if self.library.out.bytes()[..length] != self.independent.out.bytes()[..length] {
             return Err("the answers differ");
         }
         for side in [&self.library, &self.independent] {

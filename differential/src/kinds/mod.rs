@@ -9,6 +9,7 @@ mod handmade;
 mod images;
 mod lengths;
 mod limits;
+mod lists;
 mod passes;
 mod program;
 mod sessions;
@@ -37,4 +38,5 @@ pub fn run_all(test: &mut Test) {
     windows::run(test);
     dates::run(test);
     brackets::run(test);
+    lists::run(test);
 }

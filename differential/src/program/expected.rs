@@ -2,7 +2,6 @@
 
 use independent::{answer_line, Keeper};
 
-use crate::answer;
 use crate::limits::SHORTEST_OUTPUT;
 
 const LF: u8 = b'\n';
@@ -41,11 +40,8 @@ pub fn compare(lines: &[&[u8]], answers: &[u8], output: &[u8]) -> Result<(), Str
     let same = expected
         .iter()
         .zip(&written)
-        .take_while(|(expected, written)| answer::same(written, expected))
+        .take_while(|(expected, written)| expected == written)
         .count();
-    if same == expected.len() && same == written.len() {
-        return Ok(());
-    }
     Err(format!(
         "answer {} differs\n  line:     {}\n  expected: {}\n  written:  {}\n\
          {} lines, {} answers in {} bytes expected, {} in {} bytes written",
@@ -91,14 +87,13 @@ mod tests {
     }
 
     #[test]
-    fn only_the_order_of_waiting_peers_is_free() {
+    fn every_byte_is_compared() {
         let lines = [&b"(waiting)"[..], b"(read)"];
-        let answers = b"(waiting (1 5) (2 4))\n(no 1)\n";
+        let answers = b"(waiting (2 4) (1 5))\n(no 1)\n";
         assert_eq!(compare(&lines, answers, answers), Ok(()));
-        let other_order = b"(waiting (2 4) (1 5))\n(no 1)\n";
-        assert_eq!(compare(&lines, answers, other_order), Ok(()));
         for wrong in [
             &b""[..],
+            b"(waiting (1 5) (2 4))\n(no 1)\n",
             b"(waiting (2 4) (1 5))\n",
             b"(waiting (2 4) (1 5))\n(no 1)",
             b"(waiting (2 4) (1 5))\n(no 1)\n\n",
