@@ -277,7 +277,8 @@ uint32_t boardtime_write_drop(uint8_t *out, size_t out_length, uint64_t peer);
 /* `(read)`, which has no number: refused with 10 alone. */
 uint32_t boardtime_write_read(uint8_t *out, size_t out_length);
 
-/* `(waiting)`, as `(read)`. */
+/* `(waiting)`, as `(read)`. Its answer lists the waiting peers by tag, smallest
+   first. */
 uint32_t boardtime_write_waiting(uint8_t *out, size_t out_length);
 
 /* `(window SLOT (DATE DATE))`: the slot is 0 to 15, and the end is later than

@@ -29,8 +29,9 @@ struct Input {
 }
 
 /// Writes an input of this kind: a start, requests to the first `waiting`
-/// peers, and the lines of the kind. Where peers are listed, requests go back
-/// and forth over them, so that tags and peers are in different orders.
+/// peers, and the lines of the kind. Where peers are listed, requests go over
+/// them in steps of seven, modulo sixteen, so that tags and peers are in
+/// different orders.
 pub fn write(kind: &str, waiting: u64, lines: u64) -> Result<(), Box<dyn Error>> {
     let mut input = Input {
         random: Random::new(SEED),

@@ -1,5 +1,5 @@
-//! How often a list of waiting peers was answered, by how many it has, and how
-//! often it told its order from others that a keeper might list them in.
+//! How often a list of waiting peers was answered, by how many peers it has, and
+//! how often its order differed from each of seven others.
 
 use independent::Keeper;
 

@@ -44,7 +44,7 @@ pub enum Command {
     Drop { peer: u64 },
     /// `(read)`
     Read,
-    /// `(waiting)`
+    /// `(waiting)`: its answer lists the waiting peers by tag, smallest first.
     Waiting,
     /// `(window SLOT (DATE DATE))`: a slot of 0 to 15, an end later than the
     /// start. The window holds the first moment of its start's second, and not

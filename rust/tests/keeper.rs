@@ -97,6 +97,22 @@ fn grouped_numerals_are_answered_as_plain_ones() {
 }
 
 #[test]
+fn waiting_peers_are_listed_by_tag() {
+    let mut keeper = started();
+    for (line, answer) in [
+        ("(waiting)", "(waiting)\n"),
+        ("(request 9)", "(sent 9 1)\n"),
+        ("(request 4)", "(sent 4 2)\n"),
+        ("(waiting)", "(waiting (9 1) (4 2))\n"),
+        ("(drop 9)", "(dropped 9)\n"),
+        ("(request 9)", "(sent 9 3)\n"),
+        ("(waiting)", "(waiting (4 2) (9 3))\n"),
+    ] {
+        assert_eq!(answered(&mut keeper, line), (0, answer.into()));
+    }
+}
+
+#[test]
 fn what_is_no_numeral_is_not_answered() {
     let mut keeper = started();
     let before = keeper.clone();

@@ -1,5 +1,5 @@
-// The writer of an answer's line and of its LF, whatever the answer is. It is total: where the output has no room for the line, what is written of
-// it is left open.
+// The writer of an answer's line and of its LF, whatever the answer is. It is total: where the output has no room for the line, or a list is asked
+// of a keeper that does not count as started, what is written is left open.
 use answers::dropped_line;
 use answers::heater_line;
 use answers::put_refusal;
@@ -30,6 +30,7 @@ pub fn put_answer(out: &mut [u8], at: usize, answer: Answer, keeper: Keeper) -> 
             conflicts,
             waiting,
         } => time_line(out, at, edges, centre, error, conflicts, waiting),
+        // Of the keeper the tags alone are copied: lent from it, all of it would be.
         Answer::Waiting => {
             let tags = keeper.tags;
             waiting_line(out, at, keeper.waiting, &tags)

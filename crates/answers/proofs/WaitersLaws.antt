@@ -1,6 +1,6 @@
 -- The list of the waiting peers, of a keeper that counts as started: it is the one by tag, and it is put.
 use mathlib.Core.Path.{_≡_, sym}
-use mathlib.Core.Bool.{Bool, true, false}
+use mathlib.Core.Bool.{true}
 use mathlib.Core.List.{List, _++_}
 use Prim.Native.Nat.{ℕ, _<_}
 use native.Mathlib.Omega.{arith}
@@ -9,9 +9,8 @@ use lib.Dec.{eqb, ltb}
 use lib.ListN.{getD}
 use Rattle.bits.specs.Bits.{bitOf}
 use Rattle.bits.proofs.Tests.{by-test}
-use Rattle.writing.specs.Puts.{Puts}
-use Rattle.waiting_lines.specs.ByTag.{byTag, TagsKept}
-use Rattle.waiting_lines.specs.Waiting.{waitingLine}
+use Rattle.waiting_lines.specs.ByTag.{TagsKept}
+use Rattle.waiting_lines.specs.Waiting.{waitingLine, PutByTag}
 use Rattle.waiting_lines.proofs.ByTagLaws.{by-tag, by-tag-alone}
 use Rattle.waiting_lines.proofs.LengthLaws.{waiting-short}
 use Rattle.keeper.specs.State.{countsAsStarted}
@@ -43,11 +42,10 @@ module _ (k : Keeper) (counts : countsAsStarted k ≡ true) where
   one-list = record { is-one = by-tag (k .waiting) (k .tags) tags-kept; no-other = by-tag-alone (k .waiting) (k .tags) tags-kept }
 
   pub list-put : {b x : List ℕ} {at n : ℕ}
-      → ((last : ℕ) → TagsKept (k .waiting) (k .tags) last → Puts b at (waitingLine (k .tags) (byTag (k .waiting) (k .tags) last) ++ lineEnd) x n)
-      → PutShort b at (lineOf Waiting k) x n
+      → PutByTag (k .waiting) (k .tags) (λ order. waitingLine (k .tags) order ++ lineEnd) b at x n → PutShort b at (lineOf Waiting k) x n
   unfolding lineOf oldestFirst
   list-put put =
       record {
-        puts = put (k .requests) tags-kept;
+        puts = put .put (k .requests) tags-kept;
         short = waiting-short (k .waiting) (k .tags) (k .requests) (omega (arith, started-read k counts .requests));
       }

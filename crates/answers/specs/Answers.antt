@@ -10,7 +10,7 @@ use Rattle.rules.specs.declared.Finding.the-variants.{Conflict, Taken, Kept}
 use Rattle.rules.specs.declared.WindowState.{WindowState}
 use Rattle.rules.specs.declared.WindowState.the-variants.{Open, Shut, Unsure}
 use Rattle.writing.specs.Puts.{pair}
-use Rattle.waiting_lines.specs.ByTag.{byTag, OldestFirst}
+use Rattle.waiting_lines.specs.ByTag.{byTag, SmallestTagFirst}
 use Rattle.waiting_lines.specs.Waiting.{waitingLine}
 use Rattle.keeper.specs.declared.Keeper.{Keeper}
 use Rattle.keeper.specs.declared.Answer.{Answer}
@@ -57,7 +57,8 @@ lineOf A.Waiting k = waitingLine (k .tags) (oldestFirst k)
 lineOf (A.Heater slot window) k = windowWord window ++ digits slot ++ bytes ")"
 lineOf (A.Refused n) k = bytes "(no " ++ digits n ++ bytes ")"
 
--- Of a keeper that counts as started this is the one list that has each waiting peer exactly once and no other, and along which the tags rise.
+-- Of a keeper that counts as started `oldestFirst` is the one list that has each waiting peer exactly once and no other, and along which the tags
+-- rise.
 pub record OneList (k : Keeper) : Type 0 where
-  pub is-one : OldestFirst (k .waiting) (k .tags) (oldestFirst k)
-  pub no-other : (order : List ℕ) → OldestFirst (k .waiting) (k .tags) order → order ≡ oldestFirst k
+  pub is-one : SmallestTagFirst (k .waiting) (k .tags) (oldestFirst k)
+  pub no-other : (order : List ℕ) → SmallestTagFirst (k .waiting) (k .tags) order → order ≡ oldestFirst k

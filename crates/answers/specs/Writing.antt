@@ -20,6 +20,7 @@ pub record PutShort (before : List ℕ) (at : ℕ) (s after : List ℕ) (next : 
   pub puts : Puts before at (s ++ lineEnd) after next
   pub short : length s < leastOutput
 
--- The line of the answer and an LF behind it are put. A list is that of a keeper that counts as started, which alone is asked for one.
+-- The line of the answer and an LF behind it are put where there is room. Nothing is promised of a list of a keeper that does not count as started;
+-- no call writes one.
 pub record LinePut (a : Answer) (k : Keeper) (before : List ℕ) (at : ℕ) (after : List ℕ) (next : ℕ) : Type 0 where
   pub put : (a ≡ A.Waiting → countsAsStarted k ≡ true) → PutShort before at (lineOf a k) after next

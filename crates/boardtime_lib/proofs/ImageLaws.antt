@@ -22,7 +22,7 @@ use Rattle.keeper.specs.declared.Outcome.{Outcome}
 use Rattle.lent.specs.Lent.{PassLent}
 use Rattle.writing.specs.Puts.{leastOutput}
 use Rattle.line.specs.Call.{byReading, answered, Wrote, Called}
-use Rattle.line.proofs.ResponseLaws.{called-short, called-wrote}
+use Rattle.line.proofs.ResponseLaws.{called-untouched, called-wrote}
 use Rattle.image.specs.Layout.{imageLength, imageOf, imageAfter, keeperIn}
 use Rattle.on_image.specs.Apply.{imageLeft, CommandImage}
 use Rattle.on_image.proofs.ApplyLaws.{store-whole, left-refused}
@@ -55,13 +55,13 @@ module _ (image : List ℕ) (whole : length image ≡ imageLength) where
   line-answered call left =
       record {
         other-length = λ h. absurd (h whole);
-        answered = λ _. record { returned = rw (call .number-is, call .length-is); image-is = rw (call .number-is, call .keeper-is) at left; output-is = call .output-is };
+        answered = λ _. record { returned = rw (call .number-is, call .length-is); image-is = rw (call .number-is, call .keeper-is) at left; output-is = call .output-is; short = rw (call .length-is) at (call .short) };
       }
 
   -- an output that is too short: no byte is touched
   pub line-short : {out : List ℕ} (line : List ℕ) → length out < leastOutput → LineImage image line out 10 image out
   line-short line short =
-      line-answered (called-short (keeperIn image) line short)
+      line-answered (called-untouched (keeperIn image) line short)
       (left-refused image 10 (keeperIn image) (λ e. let z : _≡_ {A = ℕ} 10 0 = e in omega arith))
 
   -- an output with room: what is answered to the line is written
@@ -75,7 +75,8 @@ module _ (image : List ℕ) (whole : length image ≡ imageLength) where
   unfolding answered
   line-command {c = c} room read command =
       rw (command .returned)
-      (line-written (apply (keeperIn image) c) room (ap (λ (x : Reading). byReading x (keeperIn image)) read) (command .wrote) (command .image-is))
+      (line-written (apply (keeperIn image) c) room (ap (λ (x : Reading). byReading x (keeperIn image)) read)
+      (record { output = command .output-is; written = refl; short = command .short }) (command .image-is))
 
   -- a line that is no command leaves the image as it was
   line-none : {line out out′ : List ℕ} {n : ℕ} (m : ℕ) → (m ≡ 0 → ⊥) → leastOutput ≤ length out

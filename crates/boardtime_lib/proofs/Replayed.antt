@@ -87,7 +87,8 @@ replayed-from before (c ∷ cs) (r ∷ rs) final (image′, lent, rest) =
     let moved : image′ ≡ imageOf (keeperThrough fresh (before ++ inputOf c ∷ [])) = call-moves k c (back before) (long before) lent ∙ ap imageOf (sym (one-more before c)) in
     let (image-is, results-are) = replayed-from (before ++ inputOf c ∷ []) cs rs final (subst (λ (i : List ℕ). Replayed i cs rs final) moved rest) in (
       image-is ∙ ap (λ (is : List Input). imageOf (keeperThrough fresh is)) (append-assoc before (inputOf c ∷ []) (map inputOf cs)),
-      rw (← one-more before c, ← results-are, ← call-gives k c (back before) (long before) r lent),
+      ap (λ (x : LineResult). x ∷ rs) (call-gives k c (back before) (long before) r lent)
+          ∙ ap (λ (xs : List LineResult). resultOf k c ∷ xs) (results-are ∙ ap (λ (x : Keeper). resultsThrough x cs) (one-more before c)),
     )
 
 pub image-holds-the-run : (calls : List LineCall) (results : List LineResult) (final : List ℕ) → Replayed (imageOf fresh) calls results final → HoldsTheRun calls results final

@@ -1,7 +1,7 @@
 -- Laws of the whole call: the list of the waiting peers is answered only by a keeper that counts as started, and what is written lies within
 -- the output.
 use mathlib.Core.Path.{_≡_, ap}
-use mathlib.Core.Bool.{true, false}
+use mathlib.Core.Bool.{true}
 use mathlib.Core.List.{List, _∷_}
 use Prim.Native.Nat.{ℕ, _+_, _<_, _≤_}
 use native.Mathlib.Omega.{arith}
@@ -44,9 +44,9 @@ wrote-within {a} {k} {before} w same =
 
 module _ (k : Keeper) (line : List ℕ) where
   -- under 256 bytes nothing is touched
-  pub called-short : {before : List ℕ} → length before < leastOutput → Called k line before 10 k before 0
+  pub called-untouched : {before : List ℕ} → length before < leastOutput → Called k line before 10 k before 0
   unfolding numberAfter keeperAfter outputAfter lengthAfter
-  called-short {before} h =
+  called-untouched {before} h =
       let short = lt-ltb (length before) leastOutput h in
       record { number-is = rw short; keeper-is = rw short; output-is = rw short; length-is = rw short; short = omega arith }
 

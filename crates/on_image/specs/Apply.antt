@@ -1,15 +1,18 @@
 -- What a command does to an image.
 use mathlib.Core.Path.{_≡_}
 use mathlib.Core.List.{List}
-use Prim.Native.Nat.{ℕ, _+_, _*_}
+use Prim.Native.Nat.{ℕ, _+_, _*_, _≤_}
 use lib.Dec.{eqb}
+use lib.ListN.{length}
 use Rattle.bits.specs.Choice.{choose}
 use Rattle.command.specs.declared.Command.{Command}
 use Rattle.keeper.specs.Apply.{apply, numberOf}
 use Rattle.keeper.specs.declared.Keeper.{Keeper}
 use Rattle.keeper.specs.declared.Answer.{Answer}
 use Rattle.keeper.specs.declared.Answer.the-variants as A
-use Rattle.line.specs.Call.{Wrote}
+use Rattle.writing.specs.Puts.{leastOutput}
+use Rattle.answers.specs.Answers.{lineOf}
+use Rattle.line.specs.Call.{over}
 use Rattle.image.specs.Layout.{imageOf, imageAfter, keeperIn}
 use Rattle.changes.specs.Changes.{passedImage, askedImage, endedImage}
 
@@ -30,10 +33,14 @@ storedAfter A.Waiting k image = image
 storedAfter (A.Heater slot window) k image = image
 storedAfter (A.Refused n) k image = image
 
--- A command on the keeper that stands in the image: its answer is written, and the image becomes that of the keeper which it gives; a refused
--- one leaves every byte of it as it was.
+-- The line that answers a command on the keeper that stands in the image.
+abbrev pub commandLine : List ℕ → Command → List ℕ
+commandLine image c = lineOf (apply (keeperIn image) c .answer) (apply (keeperIn image) c .keeper)
+
+-- A command on the keeper that stands in the image: its answer is written, for which the least output has room, and the image becomes that of the
+-- keeper which it gives; a refused one leaves every byte of it as it was.
 pub record CommandImage (image : List ℕ) (c : Command) (out : List ℕ) (r : ℕ) (image′ out′ : List ℕ) : Type 0 where
-  pub written : ℕ
-  pub wrote : Wrote (apply (keeperIn image) c .answer) (apply (keeperIn image) c .keeper) out out′ written
-  pub returned : r ≡ numberOf (apply (keeperIn image) c .answer) + 256 * written
+  pub returned : r ≡ numberOf (apply (keeperIn image) c .answer) + 256 * (length (commandLine image c) + 1)
+  pub output-is : out′ ≡ over (commandLine image c) out
+  pub short : length (commandLine image c) + 1 ≤ leastOutput
   pub image-is : image′ ≡ imageLeft image (numberOf (apply (keeperIn image) c .answer)) (apply (keeperIn image) c .keeper)

@@ -1,5 +1,5 @@
 -- Laws of answers to lists of lines, and of the state after them.
-use mathlib.Core.Path.{_≡_, refl}
+use mathlib.Core.Path.{_≡_, refl, sym, ap, _∙_}
 use mathlib.Core.List.{List, [], _∷_, _++_, append-assoc}
 use Prim.Native.Nat.{ℕ}
 use Rattle.stream.specs.Stream.{through, answersTo, LongAlike}
@@ -18,7 +18,9 @@ module _ {S : Type 0} (next : S → List ℕ → S) (answer : S → List ℕ →
       → answersTo next answer s (us ++ vs) ≡ answersTo next answer s us ++ answersTo next answer (through next s us) vs
   unfolding through answersTo
   answers-append s [] vs = refl
-  answers-append s (u ∷ us) vs = rw (answers-append (next s u) us vs, append-assoc)
+  answers-append s (u ∷ us) vs =
+      ap (λ (o : List ℕ). answer s u ++ o) (answers-append (next s u) us vs)
+      ∙ sym (append-assoc (answer s u) (answersTo next answer (next s u) us) (answersTo next answer (through next (next s u) us) vs))
 
 module _ {S : Type 0} (next : S → List ℕ → S) (answer : S → List ℕ → List ℕ) (most : ℕ) (alike : LongAlike next answer most) where
   -- Lines that are alike leave the same state.

@@ -1,5 +1,5 @@
-//! Lists of the waiting peers of keepers that are handed in: tags against the
-//! peers and against the tick counts, near each other and far apart.
+//! Lists of the waiting peers of keepers that are handed in: tags and tick counts
+//! in no order of the peers, near each other and far apart.
 
 use independent::Keeper;
 
@@ -16,7 +16,7 @@ pub fn run(test: &mut Test) {
         let mut image = [0; IMAGE_LENGTH];
         keeper.to_image(&mut image);
         list(test, &mut image);
-        // A peer that waits is asked anew, and then has the newest tag.
+        // A peer is dropped, if it waits, and asked.
         let peer = random.place(PEERS);
         for word in ["drop", "request"] {
             let line = format!("({word} {peer})");
@@ -34,8 +34,8 @@ fn list(test: &mut Test, image: &mut [u8; IMAGE_LENGTH]) {
     }
 }
 
-/// A started keeper with up to fifteen peers waiting. Its tags are the newest
-/// of a number of requests, in no order, and so are the tick counts.
+/// A started keeper with up to fifteen peers waiting. Their tags are among the
+/// newest of the requests, and neither these nor the tick counts are in any order.
 fn keeper(random: &mut Random) -> Keeper {
     let ticks = random.pick(&[0, 20, 10_000_000, LAST_TICKS]);
     let newest = random.pick(&[16, 17, 300, 70_000, LAST_TAG]);
@@ -47,7 +47,8 @@ fn keeper(random: &mut Random) -> Keeper {
         requests,
         ..Keeper::fresh()
     };
-    for _ in 0..random.below(PEERS as u64 + 8) {
+    let count = random.below(PEERS as u64) as u32;
+    while keeper.waiting.count_ones() < count {
         let peer = random.place(PEERS);
         let tag = requests - random.below(u64::from(newest)) as u32;
         if peer != usize::from(keeper.board) && !keeper.tags.contains(&tag) {

@@ -3,12 +3,12 @@
 use borrow.Author.Needs.{needs}
 use mathlib.Core.Path.{sym, ap, _∙_}
 use Rattle.keeper.specs.declared.Outcome.{Outcome}
-use Rattle.line.proofs.ResponseLaws.{listed, called-short, called-wrote}
+use Rattle.line.proofs.ResponseLaws.{listed, called-untouched, called-wrote}
 use Rattle.line.proofs.call.Statement.{statement}
 use Rattle.line.proofs.call.Tie as tie
 
 returns : tie.Need-returns
-returns c = called-short _ _ (c .if1 .taken)
+returns c = called-untouched _ _ (c .if1 .taken)
 
 answer-to-requires : tie.Need-answer-to-requires
 answer-to-requires c κs = search needs

@@ -60,10 +60,15 @@ returns c =
     let loaded : c .before .before .before .before .before .before .before .before .before .before .before .before .before .load .result ≡ keeperIn image = c .before .before .before .before .before .before .before .before .before .before .before .before .before .load .ensures in
     let same : c .before .before .before .before .before .before .before .before .before .before .before .apply-command .result ≡ apply (keeperIn image) command = c .before .before .before .before .before .before .before .before .before .before .before .apply-command .ensures ∙ ap (λ (k : Keeper). apply k command) loaded in
     let w = c .before .before .before .before .before .before .before .before .write-answer in
+    let wrote : Wrote (apply (keeperIn image) command .answer) (apply (keeperIn image) command .keeper) out (w .last .0) (w .result) =
+    subst (λ (o : Outcome). Wrote (o .answer) (o .keeper) out (w .last .0) (w .result)) same (w .ensures) in
     record {
-      written = w .result;
-      wrote = subst (λ (o : Outcome). Wrote (o .answer) (o .keeper) out (w .last .0) (w .result)) same (w .ensures);
-      returned = c .returned .ensures ∙ ap (λ (n : ℕ). n + 256 * w .result) (c .before .number-of .ensures ∙ ap (λ (o : Outcome). numberOf (o .answer)) same);
+      returned =
+          c .returned .ensures
+          ∙ ap (λ (n : ℕ). n + 256 * w .result) (c .before .number-of .ensures ∙ ap (λ (o : Outcome). numberOf (o .answer)) same)
+          ∙ ap (λ (n : ℕ). numberOf (apply (keeperIn image) command .answer) + 256 * n) (wrote .written);
+      output-is = wrote .output;
+      short = rw (wrote .written) at (wrote .short);
       image-is =
           c .before .before .before .before .store-changes .ensures
           ∙ ap (λ (o : Outcome). storedAfter (o .answer) (o .keeper) image) same
