@@ -1,6 +1,7 @@
 // The writer of an answer's line and of its LF, whatever the answer is. It is total: where the output has no room for the line, or a list is asked
 // of a keeper that does not count as started, what is written is left open.
 use answers::dropped_line;
+use answers::flight_line;
 use answers::heater_line;
 use answers::put_refusal;
 use answers::sent_line;
@@ -36,6 +37,7 @@ pub fn put_answer(out: &mut [u8], at: usize, answer: Answer, keeper: Keeper) -> 
             waiting_line(out, at, keeper.waiting, &tags)
         }
         Answer::Heater(slot, window) => heater_line(out, at, slot, window),
+        Answer::Flight(peer) => flight_line(out, at, peer),
         Answer::Refused(n) => put_refusal(out, at, n),
     }
 }

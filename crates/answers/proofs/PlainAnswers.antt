@@ -92,6 +92,7 @@ answer-bytes (A.Time edges centre error conflicts waiting) k =
     refl
 answer-bytes A.Waiting k = waiting-plain (k .tags) (oldestFirst k)
 answer-bytes (A.Heater slot window) k = short-plain (windowWord window) slot (window-plain window)
+answer-bytes (A.Flight peer) k = short-plain (bytes "(flight ") peer refl
 answer-bytes (A.Refused n) k = short-plain (bytes "(no ") n refl
 
 -- no answer carries a `_`

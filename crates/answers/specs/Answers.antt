@@ -1,4 +1,4 @@
--- The line of each answer: document 01, 'The calls' and 'Causes of a refusal', and document 02, orders 3 and 6.
+-- The line of each answer: document 01, 'The calls' and 'Causes of a refusal', and document 02, orders 3, 6 and 7.
 use mathlib.Core.Path.{_≡_}
 use mathlib.Core.List.{List, _++_}
 use Prim.Native.Nat.{ℕ}
@@ -55,6 +55,7 @@ lineOf (A.Time edges centre error conflicts waiting) k =
     ++ bytes ")"
 lineOf A.Waiting k = waitingLine (k .tags) (oldestFirst k)
 lineOf (A.Heater slot window) k = windowWord window ++ digits slot ++ bytes ")"
+lineOf (A.Flight peer) k = bytes "(flight " ++ digits peer ++ bytes ")"
 lineOf (A.Refused n) k = bytes "(no " ++ digits n ++ bytes ")"
 
 -- Of a keeper that counts as started `oldestFirst` is the one list that has each waiting peer exactly once and no other, and along which the tags

@@ -69,7 +69,7 @@ module _ (before : List Input) where
   back = kept-read-back (keeperThrough fresh before) (through-kept before .0) (through-kept before .1)
 
   long : length (imageOf (keeperThrough fresh before)) ≡ imageLength
-  long = image-length (keeperThrough fresh before) (through-kept before .0 .tags) (through-kept before .0 .sent)
+  long = image-length (keeperThrough fresh before) (through-kept before .0 .tags) (through-kept before .0 .sent) (through-kept before .0 .out) (through-kept before .0 .back)
 
 -- the keeper that lines and one more leave
 one-more : (before : List Input) (c : LineCall) → keeperThrough fresh (before ++ inputOf c ∷ []) ≡ keeperAfter (keeperThrough fresh before) (c .line) (length (c .out))

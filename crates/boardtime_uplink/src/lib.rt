@@ -3,6 +3,7 @@
 // archive of its own: in that of a board the reader would be called in two places, and each line would cost the board more.
 use calendar::wide::date_from;
 use form_lines::write_drop;
+use form_lines::write_flight;
 use form_lines::write_pass;
 use form_lines::write_read;
 use form_lines::write_reply;
@@ -16,7 +17,7 @@ use writer::write_reading;
 use writing::returned;
 ghost use Rattle.moment.specs.Intervals.{interval};
 ghost use Rattle.calendar.specs.Conversion.{dateIn};
-ghost use Rattle.command.specs.Forms.{start, pass, request, reply, drop, read, waiting, window};
+ghost use Rattle.command.specs.Forms.{start, pass, request, reply, drop, read, waiting, window, flight};
 ghost use Rattle.reader.specs.Reading.{readingOf};
 ghost use Rattle.form_lines.specs.Written.{writtenForm, writtenByRule};
 ghost use Rattle.writer.specs.Written.{writtenReading};
@@ -109,6 +110,19 @@ pub extern "C" fn boardtime_write_window(
     let start_date = date_from(start[0], start[1], start[2], start[3], start[4], start[5]);
     let end_date = date_from(end[0], end[1], end[2], end[3], end[4], end[5]);
     let written = write_window(out, slot, start_date, end_date);
+    returned(written.number, written.length)
+}
+
+#[no_mangle]
+pub extern "C" fn boardtime_write_flight(
+    out: &mut [u8],
+    peer: u64,
+    out_time: u64,
+    back_time: u64,
+) -> u32
+    ensures { λ r. ⌜ Returns (writtenForm (flight peer «out_time» «back_time») (now (out .entry))) r (now (out .exit)) ⌝ }
+{
+    let written = write_flight(out, peer, out_time, back_time);
     returned(written.number, written.length)
 }
 

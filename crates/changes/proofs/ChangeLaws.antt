@@ -1,22 +1,24 @@
--- What a command changes, put into the image of a keeper, makes the image of the changed keeper (`passed-image`, `asked-image`, `ended-image`).
+-- What a command changes, put into the image of a keeper, makes the image of the changed keeper (`passed-image`, `asked-image`, `ended-image`,
+-- `flight-image`).
 use mathlib.Core.Path.{_≡_, refl, sym, ap, _∙_}
 use mathlib.Core.Bool.{true}
-use mathlib.Core.List.{List, [], _∷_, _++_}
+use mathlib.Core.List.{List, [], _∷_, _++_, append-nil}
 use Prim.Native.Nat.{ℕ, zero, suc, _+_, _*_, _<_, _≤_}
+use native.Mathlib.Nat.{mul-le-mul-left, mul-suc}
 use native.Mathlib.Omega.{arith}
 use borrow.Author.Tests.{eq-eqb, le-leb, eqb-true, leb-true}
 use lib.Dec.{leb}
-use lib.ListN.{length, set, length-set}
-use lib.Seq.{set-append-left}
+use lib.ListN.{length, set, length-set, length-append}
+use lib.Seq.{set-append-left, getD-set-same}
 use Rattle.bits.proofs.Tests.{both}
 use Rattle.moment.specs.declared.Interval.{Interval}
-use Rattle.keeper.specs.Apply.{changed, passedTo, asked, ended}
+use Rattle.keeper.specs.Apply.{changed, passedTo, asked, ended, withFlight}
 use Rattle.keeper.specs.declared.Keeper.{Keeper}
 use Rattle.image.specs.Bytes.{lowestFirst, eachLowestFirst, stored}
-use Rattle.image.specs.Layout.{imageLength, imageOf, ownBytes}
+use Rattle.image.specs.Layout.{imageLength, imageOf, ownBytes, peerBytes, flightBytes}
 use Rattle.image.proofs.StoreLaws.{length-lowest, length-each, stored-whole}
-use Rattle.image.proofs.LayoutLaws.{image-length}
-use Rattle.changes.specs.Changes.{hasPeer, peerStored, passedImage, askedImage, endedImage}
+use Rattle.image.proofs.LayoutLaws.{own-length, peers-length, image-length}
+use Rattle.changes.specs.Changes.{hasPeer, peerStored, passedImage, askedImage, endedImage, flightImage}
 
 -- ---- bytes put into the second of two runs, and into the first
 
@@ -56,50 +58,80 @@ each-set w (m ∷ ns) (suc p) n h =
     (stored-past (lowestFirst w m) (eachLowestFirst w ns) (w * p) (lowestFirst w n)
     ∙ ap (λ (s : List ℕ). lowestFirst w m ++ s) (each-set w ns p n (omega arith)))
 
--- one peer's tag and tick count, after the forty bytes of the keeper's own
-peer-put : (own tags counts : List ℕ) (peer tag ticks : ℕ) → length own ≡ 40 → length tags ≡ 16 → length counts ≡ 16 → peer ≤ 15
-    → stored (stored (own ++ (eachLowestFirst 4 tags ++ eachLowestFirst 8 counts)) (40 + 4 * peer) (lowestFirst 4 tag)) (104 + 8 * peer) (lowestFirst 8 ticks)
-    ≡ own ++ (eachLowestFirst 4 (set tags peer tag) ++ eachLowestFirst 8 (set counts peer ticks))
-peer-put own tags counts peer tag ticks forty sixteen many h =
-    let t = eachLowestFirst 4 tags in
-    let t′ = eachLowestFirst 4 (set tags peer tag) in
-    let c = eachLowestFirst 8 counts in
-    let first : 40 + 4 * peer ≡ length own + 4 * peer = omega (arith, forty) in
-    let second : 104 + 8 * peer ≡ length own + (length (eachLowestFirst 4 (set tags peer tag)) + 8 * peer) =
-    omega (arith, forty, length-each 4 (set tags peer tag), length-set tags peer tag, sixteen) in
+-- a number that has a place among sixteen is put within them
+room : (w p : ℕ) → p ≤ 15 → w * p + w ≤ w * 16
+room w p h = let past : w * suc p ≤ w * 16 = mul-le-mul-left w (omega arith) in omega (arith, past, mul-suc w p)
+
+-- Two numbers at one place of two runs of sixteen, which follow the bytes `front`.
+pair-put : (front rest : List ℕ) (w v : ℕ) (ns ms : List ℕ) (p n m at by : ℕ) → at ≡ length front + w * p → by ≡ length front + (w * 16 + v * p)
+    → length ns ≡ 16 → length ms ≡ 16 → p ≤ 15
+    → stored (stored (front ++ (eachLowestFirst w ns ++ eachLowestFirst v ms ++ rest)) at (lowestFirst w n)) by (lowestFirst v m)
+    ≡ front ++ (eachLowestFirst w (set ns p n) ++ eachLowestFirst v (set ms p m) ++ rest)
+pair-put front rest w v ns ms p n m at by first second sixteen many h =
+    let x = eachLowestFirst w ns in
+    let x′ = eachLowestFirst w (set ns p n) in
+    let y = eachLowestFirst v ms in
+    let long : length x ≡ w * 16 = length-each w ns ∙ ap (λ (i : ℕ). w * i) sixteen in
+    let long′ : length x′ ≡ w * 16 = length-each w (set ns p n) ∙ ap (λ (i : ℕ). w * i) (length-set ns p n ∙ sixteen) in
+    let other : length y ≡ v * 16 = length-each v ms ∙ ap (λ (i : ℕ). v * i) many in
+    let past : by ≡ length front + (length x′ + v * p) = omega (arith, second, long′) in
     rw (
       first,
-      stored-past own (t ++ c) (4 * peer) (lowestFirst 4 tag),
-      stored-before t c (4 * peer) (lowestFirst 4 tag) (omega (arith, length-each 4 tags, length-lowest 4 tag, sixteen)),
-      each-set 4 tags peer tag (omega (arith, sixteen)),
-      second,
-      stored-past own (t′ ++ c) (length t′ + 8 * peer) (lowestFirst 8 ticks),
-      stored-past t′ c (8 * peer) (lowestFirst 8 ticks),
-      each-set 8 counts peer ticks (omega (arith, many)),
+      stored-past front (x ++ y ++ rest) (w * p) (lowestFirst w n),
+      stored-before (x ++ y) rest (w * p) (lowestFirst w n) (omega (arith, length-append x y, long, length-lowest w n, room w p h)),
+      stored-before x y (w * p) (lowestFirst w n) (omega (arith, long, length-lowest w n, room w p h)),
+      each-set w ns p n (omega (arith, sixteen)),
+      past,
+      stored-past front (x′ ++ y ++ rest) (length x′ + v * p) (lowestFirst v m),
+      stored-before (x′ ++ y) rest (length x′ + v * p) (lowestFirst v m) (omega (arith, length-append x′ y, other, length-lowest v m, room v p h)),
+      stored-past x′ y (v * p) (lowestFirst v m),
+      each-set v ms p m (omega (arith, many)),
     )
 
--- ---- the three changes, of every keeper with places for sixteen peers
+-- ---- the four changes, of every keeper with places for sixteen peers
 
-module _ (k : Keeper) (tags : length (k .tags) ≡ 16) (sent : length (k .«sent_at») ≡ 16) where
-  pub passed-image : (edges : Interval) (ticks : ℕ) → passedImage (imageOf k) edges ticks ≡ imageOf (passedTo k edges ticks)
-  unfolding passedImage imageOf passedTo changed stored lowestFirst
-  passed-image edges ticks = rw (eq-eqb _ _ (image-length k tags sent))
+module _
+    (k : Keeper)
+    (tags : length (k .tags) ≡ 16)
+    (sent : length (k .«sent_at») ≡ 16)
+    (outs : length (k .out) ≡ 16)
+    (backs : length (k .back) ≡ 16)
+  where
+    pub passed-image : (edges : Interval) (ticks : ℕ) → passedImage (imageOf k) edges ticks ≡ imageOf (passedTo k edges ticks)
+    unfolding passedImage imageOf passedTo changed stored lowestFirst
+    passed-image edges ticks = rw (eq-eqb _ _ (image-length k tags sent outs backs))
 
-  peer-there : (peer : ℕ) → peer ≤ 15 → hasPeer (imageOf k) peer ≡ true
-  unfolding hasPeer
-  peer-there peer h = rw (eq-eqb _ _ (image-length k tags sent), le-leb _ _ h)
+    peer-there : (peer : ℕ) → peer ≤ 15 → hasPeer (imageOf k) peer ≡ true
+    unfolding hasPeer
+    peer-there peer h = rw (eq-eqb _ _ (image-length k tags sent outs backs), le-leb _ _ h)
 
-  pub asked-image : (peer : ℕ) → peer ≤ 15
-      → askedImage (imageOf k) (asked k peer .waiting) (asked k peer .requests) peer (k .ticks) ≡ imageOf (asked k peer)
-  unfolding askedImage peerStored imageOf asked changed stored lowestFirst
-  asked-image peer h =
-      rw (peer-there peer h) (peer-put (ownBytes (asked k peer)) (k .tags) (k .«sent_at») peer (k .requests + 1) (k .ticks) refl tags sent h)
+    pub asked-image : (peer : ℕ) → peer ≤ 15
+        → askedImage (imageOf k) (asked k peer .waiting) (asked k peer .requests) peer (k .ticks) ≡ imageOf (asked k peer)
+    unfolding askedImage peerStored imageOf asked changed stored lowestFirst
+    asked-image peer h =
+        rw (peer-there peer h)
+        (pair-put (ownBytes (asked k peer)) (flightBytes k) 4 8 (k .tags) (k .«sent_at») peer (k .requests + 1) (k .ticks) (40 + 4 * peer) (104 + 8 * peer)
+        refl (omega arith) tags sent h)
 
-  pub ended-image : (peer : ℕ) (edges : Interval) (conflicts : ℕ) → peer ≤ 15
-      → endedImage (imageOf k) (ended k peer edges conflicts .waiting) edges conflicts peer ≡ imageOf (ended k peer edges conflicts)
-  unfolding endedImage peerStored imageOf ended changed stored lowestFirst
-  ended-image peer edges conflicts h =
-      rw (peer-there peer h) (peer-put (ownBytes (ended k peer edges conflicts)) (k .tags) (k .«sent_at») peer 0 0 refl tags sent h)
+    pub ended-image : (peer : ℕ) (edges : Interval) (conflicts : ℕ) → peer ≤ 15
+        → endedImage (imageOf k) (ended k peer edges conflicts .waiting) edges conflicts peer ≡ imageOf (ended k peer edges conflicts)
+    unfolding endedImage peerStored imageOf ended changed stored lowestFirst
+    ended-image peer edges conflicts h =
+        rw (peer-there peer h)
+        (pair-put (ownBytes (ended k peer edges conflicts)) (flightBytes k) 4 8 (k .tags) (k .«sent_at») peer 0 0 (40 + 4 * peer) (104 + 8 * peer)
+        refl (omega arith) tags sent h)
+
+    -- the times at the end of the image, behind all that was there before them
+    pub flight-image : (peer out back : ℕ) → peer ≤ 15
+        → flightImage (imageOf k) peer (set (k .out) peer out) (set (k .back) peer back) ≡ imageOf (withFlight k peer out back)
+    unfolding flightImage imageOf withFlight
+    flight-image peer out back h =
+        let front = ownBytes k ++ peerBytes k in
+        let long : length front ≡ 232 = length-append (ownBytes k) (peerBytes k) ∙ omega (arith, own-length k, peers-length k tags sent) in
+        rw (peer-there peer h, getD-set-same (k .out) peer out 0 (omega (arith, outs)), getD-set-same (k .back) peer back 0 (omega (arith, backs)))
+        (ap (λ (t : List ℕ). stored (stored (front ++ t) (232 + 4 * peer) (lowestFirst 4 out)) (296 + 4 * peer) (lowestFirst 4 back)) (sym (append-nil (flightBytes k)))
+        ∙ pair-put front [] 4 4 (k .out) (k .back) peer out back (232 + 4 * peer) (296 + 4 * peer) (omega (arith, long)) (omega (arith, long)) outs backs h
+        ∙ ap (λ (t : List ℕ). front ++ t) (append-nil (eachLowestFirst 4 (set (k .out) peer out) ++ eachLowestFirst 4 (set (k .back) peer back))))
 
 -- ---- what the test of the code says
 

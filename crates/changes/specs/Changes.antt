@@ -3,7 +3,7 @@ use mathlib.Core.Bool.{Bool, _&&_}
 use mathlib.Core.List.{List}
 use Prim.Native.Nat.{ℕ, _+_, _*_}
 use lib.Dec.{eqb, leb}
-use lib.ListN.{length}
+use lib.ListN.{length, getD}
 use Rattle.bits.specs.Choice.{choose}
 use Rattle.moment.specs.declared.Interval.{Interval}
 use Rattle.image.specs.Bytes.{lowestFirst, stored}
@@ -33,4 +33,12 @@ unfoldable pub endedImage : List ℕ → ℕ → Interval → ℕ → ℕ → Li
 endedImage image waiting edges conflicts peer =
     choose (hasPeer image peer)
     (λ _. peerStored (stored (stored image 8 (edgeBytes edges)) 36 (lowestFirst 4 conflicts)) waiting peer 0 0)
+    (λ _. image)
+
+-- After a flight: the peer's out time and its back time, of those of all peers.
+unfoldable pub flightImage : List ℕ → ℕ → List ℕ → List ℕ → List ℕ
+flightImage image peer out back =
+    choose (hasPeer image peer)
+    (λ _.
+    stored (stored image (232 + 4 * peer) (lowestFirst 4 (getD out peer 0))) (296 + 4 * peer) (lowestFirst 4 (getD back peer 0)))
     (λ _. image)

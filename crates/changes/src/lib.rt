@@ -1,5 +1,5 @@
 // What one command changes in an image, put into it; every other byte is left as it was. The image of a keeper becomes the image of the
-// changed keeper (`passed-image`, `asked-image`, `ended-image`), with fewer stores than the whole keeper takes.
+// changed keeper (`passed-image`, `asked-image`, `ended-image`, `flight-image`), with fewer stores than the whole keeper takes.
 use image::bytes::store_2;
 use image::bytes::store_4;
 use image::bytes::store_8;
@@ -10,7 +10,7 @@ ghost use mathlib.Core.Path.{_≡_};
 ghost use Prim.Native.Nat.{_≤_};
 ghost use lib.ListN.{length};
 ghost use Rattle.image.specs.Layout.{imageLength};
-ghost use Rattle.changes.specs.Changes.{hasPeer, peerStored, passedImage, askedImage, endedImage};
+ghost use Rattle.changes.specs.Changes.{hasPeer, peerStored, passedImage, askedImage, endedImage, flightImage};
 
 // Whether the buffer has the length of an image, and the image places for the peer.
 fn has_peer(image: &[u8], peer: u8) -> bool
@@ -66,4 +66,16 @@ pub fn store_ended(image: &mut [u8], waiting: u16, edges: Interval, conflicts: u
     store_edges(image, edges);
     store_4(image, 36, conflicts);
     store_peer(image, waiting, peer, 0, 0);
+}
+
+// After a flight: the peer's two times. A buffer of another length is left as it was; for a peer above 15, any buffer.
+pub fn store_flight<'a>(image: &mut [u8], peer: u8, out: &'a [u32; 16], back: &'a [u32; 16])
+    ensures { λ _. ⌜ now (image .exit) ≡ flightImage (now (image .entry)) peer (now (out .entry)) (now (back .entry)) ⌝ }
+{
+    if !has_peer(image, peer) {
+        return;
+    }
+    let place = peer as usize;
+    store_4(image, 232 + 4 * place, out[place]);
+    store_4(image, 296 + 4 * place, back[place]);
 }

@@ -133,6 +133,7 @@ form-texts (F.drop peer) = (refl, (tt, (refl, tt)))
 form-texts F.read = (refl, tt)
 form-texts F.waiting = (refl, tt)
 form-texts (F.window slot begins ends) = (refl, (tt, (refl, (tt, (refl, (tt, (refl, tt)))))))
+form-texts (F.flight peer out back) = (refl, (tt, (refl, (tt, (refl, (tt, (refl, tt)))))))
 
 parts-bytes : (ps : List Part) → TextsPlain ps → printable (plainParts ps) ≡ true
 unfolding plainParts printable

@@ -27,6 +27,8 @@ use Rattle.moment.proofs.IntervalLaws.{range-read}
 use Rattle.calendar.specs.declared.Date.{Date}
 use Rattle.calendar.specs.Calendar.{exists}
 use Rattle.calendar.specs.Conversion.{momentOf}
+use Rattle.flights.specs.Flights.{flightWithin}
+use Rattle.flights.proofs.FlightLaws.{flight-bound}
 use Rattle.dates.specs.DateText.{Fits}
 use Rattle.dates.proofs.FitLaws.{exists-fits}
 use Rattle.dates.proofs.PlacedLaws.{date-length}
@@ -112,6 +114,7 @@ Small (F.drop peer) = peer < 10 ^ 2
 Small F.read = Unit {0}
 Small F.waiting = Unit {0}
 Small (F.window slot begins ends) = (slot < 10 ^ 2) × Fits begins × Fits ends
+Small (F.flight peer out back) = (peer < 10 ^ 2) × (out < 10 ^ 10) × (back < 10 ^ 10)
 
 board-small : (n : ℕ) → boardWithin n ≡ true → n < 10 ^ 2
 unfolding boardWithin
@@ -132,6 +135,9 @@ slot-small n h = omega (arith, leb-true n 15 h)
 tag-small : (n : ℕ) → tagWithin n ≡ true → n < 10 ^ 8
 unfolding tagWithin
 tag-small n h = omega (arith, leb-true n 16777215 (both (leb 1 n) (leb n 16777215) h .1))
+
+flight-small : (n : ℕ) → flightWithin n ≡ true → n < 10 ^ 10
+flight-small n h = omega (arith, flight-bound n h)
 
 -- a form that no cause of its own refuses keeps its limits; its dates exist, and the second is later
 pub uncaused-keeps : (f : Form) → first (formCauses f) ≡ 0 → keeps f ≡ true
@@ -173,6 +179,10 @@ uncaused-small F.waiting h = tt
 uncaused-small (F.window slot begins ends) h =
     let (b, e, later) = uncaused-dates slot begins ends h in
     (slot-small slot (uncaused-keeps (F.window slot begins ends) h), exists-fits begins b, exists-fits ends e)
+uncaused-small (F.flight peer out back) h =
+    let (front, b) = both (boardWithin peer && flightWithin out) (flightWithin back) (uncaused-keeps (F.flight peer out back) h) in
+    let (p, o) = both (boardWithin peer) (flightWithin out) front in
+    (board-small peer p, flight-small out o, flight-small back b)
 
 small-numerals : (f : Form) → Small f → HaveNumerals (parts f)
 small-numerals (F.start board r claim edges) (b, c, low, high) =
@@ -185,6 +195,7 @@ small-numerals (F.drop peer) h = (tt, (omega (arith, h), (tt, tt)))
 small-numerals F.read h = (tt, tt)
 small-numerals F.waiting h = (tt, tt)
 small-numerals (F.window slot begins ends) (s, b, e) = (tt, (omega (arith, s), (tt, (b, (tt, (e, (tt, tt)))))))
+small-numerals (F.flight peer out back) (p, o, b) = (tt, (omega (arith, p), (tt, (omega (arith, o), (tt, (omega (arith, b), (tt, tt)))))))
 
 pub plain-spells : (f : Form) → first (formCauses f) ≡ 0 → IsSpelling f (plainSpelling f)
 unfolding plainSpelling
@@ -222,6 +233,7 @@ small-most (F.drop peer) h = omega (arith, digits-most 1 peer h)
 small-most F.read h = omega arith
 small-most F.waiting h = omega arith
 small-most (F.window slot begins ends) (s, b, e) = omega (arith, digits-most 1 slot s, date-length begins, date-length ends)
+small-most (F.flight peer out back) (p, o, b) = omega (arith, digits-most 1 peer p, digits-most 9 out o, digits-most 9 back b)
 
 -- no form that no cause of its own refuses has more than 63 bytes: a start with a board of two digits, a claim of five, and two negative edges of
 -- nineteen digits has as many
@@ -267,3 +279,4 @@ spelling-most f line h = omega (arith, parts-most (parts f) line h, all f)
     all F.read = omega arith
     all F.waiting = omega arith
     all (F.window slot begins ends) = omega arith
+    all (F.flight peer out back) = omega arith

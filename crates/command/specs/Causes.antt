@@ -40,6 +40,7 @@ dateCauses F.read = []
 dateCauses F.waiting = []
 dateCauses (F.window slot begins ends) =
     cause 11 (not (exists begins && exists ends)) ∷ cause 12 (not (ltZ (momentOf begins) (momentOf ends))) ∷ []
+dateCauses (F.flight peer out back) = []
 
 -- The causes that a form has before 3, which look at no keeper: 'a numeral outside its range, or a first edge above the second' is 2.
 abbrev pub formCauses : Form → List Cause

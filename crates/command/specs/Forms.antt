@@ -1,4 +1,4 @@
--- The grammar of command lines, as spellings of forms: document 01, 'Line forms', and document 02, order 3.
+-- The grammar of command lines, as spellings of forms: document 01, 'Line forms', and document 02, orders 3 and 7.
 use mathlib.Core.Path.{_≡_}
 use mathlib.Core.List.{List, [], _∷_, _++_}
 use Prim.Native.Nat.{ℕ}
@@ -13,7 +13,7 @@ use Rattle.rules.specs.declared.Rule.{Rule}
 use Rattle.rules.specs.declared.Rule.the-variants.{Im, Mm}
 
 -- A form: its word, and the numbers and dates of its parts. Of a pair of edges the first is the lower, or TRAILING, and the second the upper, or
--- LEADING; of a window's dates the first is its start, and the second its end.
+-- LEADING; of a window's dates the first is its start, and the second its end. A flight has the peer, its OUT and its BACK.
 pub data Form : Type 0 where
   start : (board : ℕ) (rule : Rule) (claim : ℕ) (edges : Interval) → Form
   pass : (ticks : ℕ) → Form
@@ -23,6 +23,7 @@ pub data Form : Type 0 where
   read : Form
   waiting : Form
   window : (slot : ℕ) (begins ends : Date) → Form
+  flight : (peer out back : ℕ) → Form
 
 -- What a line is put together of: bytes as they stand, the rule's word, numerals, and dates. 'Only edges may be negative.'
 pub data Part : Type 0 where
@@ -86,6 +87,15 @@ parts (window slot begins ends) =
     ∷ date begins
     ∷ text " "
     ∷ date ends
+    ∷ text "))"
+    ∷ []
+parts (flight peer out back) =
+    text "(flight "
+    ∷ number peer
+    ∷ text " ("
+    ∷ number out
+    ∷ text " "
+    ∷ number back
     ∷ text "))"
     ∷ []
 

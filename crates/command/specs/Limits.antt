@@ -1,10 +1,11 @@
 -- The limits of the numbers in a form, and the command that a form within them is: document 01, 'Line forms' and 'Moments and ticks',
--- and document 02, order 3.
+-- and document 02, orders 3 and 7.
 use mathlib.Core.Bool.{Bool, true, _&&_}
 use Prim.Native.Nat.{ℕ}
 use lib.Dec.{leb}
 use Rattle.bits.specs.Choice.{choose}
 use Rattle.moment.specs.Intervals.{edgesWithin}
+use Rattle.flights.specs.Flights.{flightWithin}
 use Rattle.moment.specs.declared.Interval.{Interval}
 use Rattle.command.specs.Forms as F
 use Rattle.command.specs.Forms.{Form}
@@ -43,6 +44,8 @@ keeps (F.drop peer) = boardWithin peer
 keeps F.read = true
 keeps F.waiting = true
 keeps (F.window slot begins ends) = slotWithin slot
+-- 'here the pair need not be in order' (order 7)
+keeps (F.flight peer out back) = boardWithin peer && flightWithin out && flightWithin back
 
 -- The command of a form, and the form of a command: the same word, the same numbers and the same dates.
 abbrev pub commandOf : Form → Command
@@ -54,6 +57,7 @@ commandOf (F.drop peer) = C.Drop peer
 commandOf F.read = C.Read
 commandOf F.waiting = C.Waiting
 commandOf (F.window slot begins ends) = C.Window slot begins ends
+commandOf (F.flight peer out back) = C.Flight peer out back
 
 abbrev pub formOf : Command → Form
 formOf (C.Start board rule claim edges) = F.start board rule claim edges
@@ -64,6 +68,7 @@ formOf (C.Drop peer) = F.drop peer
 formOf C.Read = F.read
 formOf C.Waiting = F.waiting
 formOf (C.Window slot start end) = F.window slot start end
+formOf (C.Flight peer out back) = F.flight peer out back
 
 -- 'a numeral outside its range, or a first edge above the second' is refusal 2.
 unfoldable pub limited : Form → Reading

@@ -3,6 +3,7 @@ use crate::Command;
 use crate::Reading;
 use crate::limits::board_within;
 use crate::limits::claim_within;
+use crate::limits::flight_within;
 use crate::limits::slot_within;
 use crate::limits::tag_within;
 use crate::limits::ticks_within;
@@ -12,7 +13,7 @@ use moment::intervals::Bounds;
 use moment::intervals::edges_within;
 use rules::Rule;
 ghost use mathlib.Core.Path.{_≡_};
-ghost use Rattle.command.specs.Forms.{start, pass, request, reply, drop, window};
+ghost use Rattle.command.specs.Forms.{start, pass, request, reply, drop, window, flight};
 ghost use Rattle.command.specs.Limits.{limited};
 ghost use Rattle.command.specs.Edges.{edgeValue, integerOf};
 ghost use Rattle.moment.specs.Intervals.{interval, boundsOf};
@@ -143,5 +144,18 @@ pub fn accept_window(slot: u64, start: Date, end: Date) -> Reading
         slot: slot as u8,
         start,
         end,
+    })
+}
+
+pub fn accept_flight(peer: u64, out: u64, back: u64) -> Reading
+    ensures { λ r. ⌜ r ≡ limited (flight peer out back) ⌝ }
+{
+    if !flight_within(peer, out, back) {
+        return Reading::OutsideLimits;
+    }
+    Reading::Accepted(Command::Flight {
+        peer: peer as u8,
+        out: out as u32,
+        back: back as u32,
     })
 }

@@ -1,4 +1,4 @@
-// Commands and their limits: document 01, 'Line forms', and document 02, order 3.
+// Commands and their limits: document 01, 'Line forms', and document 02, orders 3 and 7.
 use calendar::Date;
 use moment::Interval;
 use rules::Rule;
@@ -36,6 +36,11 @@ pub enum Command {
         slot: u8,
         start: Date,
         end: Date,
+    },
+    Flight {
+        peer: u8,
+        out: u32,
+        back: u32,
     },
 }
 

@@ -1,10 +1,13 @@
-// The limits of each number: document 01, 'Line forms' and 'Moments and ticks', and document 02, order 3. Each stands here once.
+// The limits of each number: document 01, 'Line forms' and 'Moments and ticks', and document 02, orders 3 and 7. Each stands here once,
+// but that of a flight time, which a keeper's times have too: `flights` has it.
+use flights::time_within;
 use moment::Interval;
 use moment::intervals::edges_within;
 ghost use mathlib.Core.Path.{_≡_};
 ghost use mathlib.Core.Bool.{_&&_};
 ghost use Rattle.command.specs.Limits.{boardWithin, claimWithin, ticksWithin, tagWithin, slotWithin};
 ghost use Rattle.moment.specs.Intervals.{edgesWithin};
+ghost use Rattle.flights.specs.Flights.{flightWithin};
 
 pub const LAST_BOARD: u64 = 15;
 
@@ -73,4 +76,17 @@ pub fn reply_within(peer: u64, tag: u64, edges: Interval) -> bool
         return false;
     }
     edges_within(edges)
+}
+
+// The numbers of a flight: neither time bounds the other.
+pub fn flight_within(peer: u64, out: u64, back: u64) -> bool
+    ensures { λ r. ⌜ r ≡ boardWithin peer && flightWithin out && flightWithin back ⌝ }
+{
+    if !board_within(peer) {
+        return false;
+    }
+    if !time_within(out) {
+        return false;
+    }
+    time_within(back)
 }

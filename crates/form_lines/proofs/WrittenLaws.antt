@@ -26,7 +26,7 @@ use Rattle.command.specs.Causes.{Cause, cause, first, mostNumber, formCauses}
 use Rattle.command.proofs.CauseLaws.{small, first-most}
 use Rattle.command.proofs.SpellingLaws.{plain-most}
 use Rattle.form_lines.specs.Written.{WriteResult, writeResult, writeRefusal, writes, refused, writtenForm, writtenByRule}
-use Rattle.form_lines.specs.Lines.{edgedEnd, edgedLine, numberedLine}
+use Rattle.form_lines.specs.Lines.{edgedEnd, edgedLine, timedEnd, timedLine, numberedLine}
 
 -- ---- by the number
 
@@ -79,10 +79,18 @@ edgedParts word m between n e =
 abbrev numberedParts : String → ℕ → List Part
 numberedParts word n = F.text word ∷ F.number n ∷ F.text ")" ∷ []
 
+abbrev timedParts : String → ℕ → ℕ → ℕ → List Part
+timedParts word n first second =
+    F.text word ∷ F.number n ∷ F.text " (" ∷ F.number first ∷ F.text " " ∷ F.number second ∷ F.text "))" ∷ []
+
 edged-line : (word : String) (m : ℕ) (between : Part) (n : ℕ) (e : Interval)
     → edgedLine (bytes word) m (plainPart between) n e ≡ plainParts (edgedParts word m between n e)
 unfolding plainParts edgedLine edgedEnd pair
 edged-line word m between n e = simp append-assoc
+
+timed-line : (word : String) (n first second : ℕ) → timedLine (bytes word) n first second ≡ plainParts (timedParts word n first second)
+unfolding plainParts timedLine timedEnd
+timed-line word n first second = simp append-assoc
 
 numbered-line : (word : String) (n : ℕ) → numberedLine (bytes word) n ≡ plainParts (numberedParts word n)
 unfolding plainParts numberedLine
@@ -104,6 +112,10 @@ module _ (f : Form) (word : String) (limits : formCauses f ≡ cause 2 (not (kee
   pub edged-form : (m : ℕ) (between : Part) (n : ℕ) (e : Interval) → parts f ≡ edgedParts word m between n e
       → writes (cause 2 (not kept) ∷ []) (edgedLine (bytes word) m (plainPart between) n e) out ≡ writtenForm f out
   edged-form m between n e are = form-written _ _ (edged-line word m between n e) are
+
+  pub timed-form : (n first second : ℕ) → parts f ≡ timedParts word n first second
+      → writes (cause 2 (not kept) ∷ []) (timedLine (bytes word) n first second) out ≡ writtenForm f out
+  timed-form n first second are = form-written _ _ (timed-line word n first second) are
 
   pub numbered-form : (n : ℕ) → parts f ≡ numberedParts word n → writes (cause 2 (not kept) ∷ []) (numberedLine (bytes word) n) out ≡ writtenForm f out
   numbered-form n are = form-written _ _ (numbered-line word n) are
@@ -156,6 +168,7 @@ causes-small (F.drop peer) = refl
 causes-small F.read = refl
 causes-small F.waiting = refl
 causes-small (F.window slot begins ends) = refl
+causes-small (F.flight peer out back) = refl
 
 pub form-bounded : (f : Form) (out : List ℕ) → Bounded (writtenForm f out)
 unfolding writtenForm

@@ -14,6 +14,13 @@ edgedEnd n edges = digits n ++ bytes " " ++ pair (edges .lower) (edges .upper) +
 unfoldable pub edgedLine : List ℕ → ℕ → List ℕ → ℕ → Interval → List ℕ
 edgedLine word m between n edges = word ++ digits m ++ between ++ edgedEnd n edges
 
+-- a number and a pair of flight times
+unfoldable pub timedEnd : ℕ → ℕ → ℕ → List ℕ
+timedEnd n first second = digits n ++ bytes " (" ++ digits first ++ bytes " " ++ digits second ++ bytes "))"
+
+unfoldable pub timedLine : List ℕ → ℕ → ℕ → ℕ → List ℕ
+timedLine word n first second = word ++ timedEnd n first second
+
 -- one number
 unfoldable pub numberedLine : List ℕ → ℕ → List ℕ
 numberedLine word n = word ++ digits n ++ bytes ")"

@@ -1,4 +1,4 @@
-// Lines by their layout: two numbers and edges, one number, a word alone. Nothing is put before every test has passed.
+// Lines by their layout: two numbers and edges, a number and two times, one number, a word alone. Nothing is put before every test has passed.
 use crate::Written;
 use digits::write::put_number;
 use moment::Interval;
@@ -14,7 +14,7 @@ ghost use lib.ListN.{length};
 ghost use Rattle.writing.specs.Puts.{Puts};
 ghost use Rattle.command.specs.Causes.{cause, first};
 ghost use Rattle.form_lines.specs.Written.{writeResult, writes};
-ghost use Rattle.form_lines.specs.Lines.{edgedEnd, edgedLine, numberedLine};
+ghost use Rattle.form_lines.specs.Lines.{edgedEnd, edgedLine, timedEnd, timedLine, numberedLine};
 
 pub(crate) const OUTSIDE_LIMITS: u8 = 2;
 
@@ -63,6 +63,39 @@ pub(crate) fn write_edged(
     let at = put_number(out, at, m);
     let at = put_bytes(out, at, between);
     let length = put_end(out, at, n, edges);
+    Written { number: 0, length }
+}
+
+// `N (FIRST SECOND))`, the end of a line with flight times
+fn put_times(out: &mut [u8], at: usize, n: u64, first: u64, second: u64) -> usize
+    ensures { λ r. ⌜ Puts (now (out .entry)) at (timedEnd n first second) (now (out .exit)) r × (length (timedEnd n first second) ≤ 65) ⌝ }
+{
+    let at = put_number(out, at, n);
+    let at = put_bytes(out, at, b" (");
+    let at = put_number(out, at, first);
+    let at = put_bytes(out, at, b" ");
+    let at = put_number(out, at, second);
+    put_bytes(out, at, b"))")
+}
+
+// `WORD N (FIRST SECOND))`
+pub(crate) fn write_timed(
+    out: &mut [u8],
+    kept: bool,
+    word: &[u8],
+    n: u64,
+    first: u64,
+    second: u64,
+) -> Written
+    requires { ⌜ length (now word) ≤ 16 ⌝ }
+    ensures { λ r. ⌜ writeResult (r .number) (r .length) (now (out .exit)) ≡ writes (cause 2 (not kept) ∷ []) (timedLine (now (word .entry)) n first second) (now (out .entry)) ⌝ }
+{
+    let number = refusal_of(out.len() < LEAST_OUTPUT, kept);
+    if number != 0 {
+        return Written { number, length: 0 };
+    }
+    let at = put_bytes(out, 0, word);
+    let length = put_times(out, at, n, first, second);
     Written { number: 0, length }
 }
 

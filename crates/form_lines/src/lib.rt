@@ -4,8 +4,10 @@ use crate::layouts::OUTSIDE_LIMITS;
 use crate::layouts::write_bare;
 use crate::layouts::write_edged;
 use crate::layouts::write_numbered;
+use crate::layouts::write_timed;
 use calendar::Date;
 use command::limits::board_within;
+use command::limits::flight_within;
 use command::limits::reply_within;
 use command::limits::start_within;
 use command::limits::ticks_within;
@@ -19,7 +21,7 @@ use writing::NO_ROOM;
 mod layouts;
 
 ghost use mathlib.Core.Path.{_≡_};
-ghost use Rattle.command.specs.Forms.{start, pass, request, reply, drop, read, waiting, window};
+ghost use Rattle.command.specs.Forms.{start, pass, request, reply, drop, read, waiting, window, flight};
 ghost use Rattle.form_lines.specs.Written.{writeResult, writtenForm, refused, writtenByRule};
 
 // The number, and the length of the line at the front of the buffer: 0 unless the number is 0.
@@ -131,4 +133,18 @@ pub fn write_window(out: &mut [u8], slot: u64, start: Date, end: Date) -> Writte
     }
     let length = put_window(out, slot, start, end);
     Written { number: 0, length }
+}
+
+// `(flight PEER (OUT BACK))`
+pub fn write_flight(out: &mut [u8], peer: u64, out_time: u64, back_time: u64) -> Written
+    ensures { λ r. ⌜ writeResult (r .number) (r .length) (now (out .exit)) ≡ writtenForm (flight peer «out_time» «back_time») (now (out .entry)) ⌝ }
+{
+    write_timed(
+        out,
+        flight_within(peer, out_time, back_time),
+        b"(flight ",
+        peer,
+        out_time,
+        back_time,
+    )
 }

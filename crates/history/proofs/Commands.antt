@@ -22,10 +22,11 @@ use Rattle.keeper.specs.Refusals.{waited, replyBracket, replyVerdict, keeperCau
 use Rattle.keeper.specs.Apply.{accepted}
 use Rattle.keeper.specs.declared.Keeper.{Keeper}
 use Rattle.keeper.proofs.Causes.{accepted-none}
+use Rattle.keeper.proofs.Accepted.{flight-limits}
 use Rattle.keeper.proofs.StartedLaws.{started-read}
 use Rattle.history.specs.Log.{logAccepted}
 use Rattle.history.proofs.Invariant.{logOf, KeeperInvariant, Invariant, After}
-use Rattle.history.proofs.Steps.{start-invariant, pass-invariant, request-invariant, ended-invariant, still-follows}
+use Rattle.history.proofs.Steps.{start-invariant, pass-invariant, request-invariant, flight-invariant, ended-invariant, still-follows}
 use Rattle.history.proofs.Replies.{reply-invariant}
 
 small : (peer : ℕ) → boardWithin peer ≡ true → peer < 16
@@ -66,7 +67,9 @@ module _ (k : Keeper) (taken kept dropped : ℕ) (stands : ℤ → Type 0) (held
       let before : countsAsStarted k ≡ true = not-false _ (c .1 .0) in
       let limits = both (boardWithin peer && tagWithin tag) (edgesWithin reply) (not-false _ (c .0)) in
       let w = waited (stateOf k) peer in
-      let b = bracket (k .claim) w reply in
+      let out = stateOf k .out peer in
+      let back = stateOf k .back peer in
+      let b = bracket (k .claim) w out back reply in
       reply-invariant k taken kept dropped stands held peer b _
       (record {
         before = before;
@@ -75,7 +78,7 @@ module _ (k : Keeper) (taken kept dropped : ℕ) (stands : ℤ → Type 0) (held
         within =
             judged-within b (outward (k .claim) w) reply (k .edges) (outward-from (k .claim) w) (limits .1) (started-read k before .edges) (k .rule)
             (c .1 .1 .1 .1 .1 .0);
-        sound = judged-sound b (outward (k .claim) w) reply (k .edges) (adopted-holds (k .claim) w reply) (k .rule);
+        sound = judged-sound b (outward (k .claim) w) reply (k .edges) (adopted-holds (k .claim) w out back reply) (k .rule);
       })
 
   drop-accepted : (peer : ℕ) → refusal (stateOf k) (C.Drop peer) ≡ 0 → After k taken kept dropped stands (C.Drop peer)
@@ -89,6 +92,13 @@ module _ (k : Keeper) (taken kept dropped : ℕ) (stands : ℤ → Type 0) (held
       (omega arith)
       stands
       (still-follows k peer stands before (held .follows))
+
+  flight-accepted : (peer out back : ℕ) → refusal (stateOf k) (C.Flight peer out back) ≡ 0 → After k taken kept dropped stands (C.Flight peer out back)
+  unfolding refusal causes ownCauses keeperCauses stateOf logAccepted accepted
+  flight-accepted peer out back e =
+      let c = accepted-none (stateOf k) (C.Flight peer out back) e in
+      let (p, o, b) = flight-limits peer out back (not-false _ (c .0)) in
+      flight-invariant k taken kept dropped stands held (not-false _ (c .1 .0)) peer out back (small peer p) o b
 
   -- a command that only asks, or a line that is refused
   pub unchanged : Invariant (logOf k taken kept dropped) k stands
@@ -104,3 +114,4 @@ module _ (k : Keeper) (taken kept dropped : ℕ) (stands : ℤ → Type 0) (held
   command-invariant C.Read e = unchanged
   command-invariant C.Waiting e = unchanged
   command-invariant (C.Window slot start end) e = unchanged
+  command-invariant (C.Flight peer out back) e = flight-accepted peer out back e

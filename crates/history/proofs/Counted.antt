@@ -9,7 +9,7 @@ use Rattle.rules.specs.declared.Finding.the-variants.{Conflict, Taken, Kept}
 use Rattle.command.specs.declared.Command.{Command}
 use Rattle.command.specs.declared.Command.the-variants as C
 use Rattle.keeper.specs.Refusals.{replyBracket, replyVerdict}
-use Rattle.history.specs.Log.{Log, Accepting, accepts, refuses, accepting, logStarted, stateWith, logPassed, logAsked, logEnded, logConflicts, logCounted, logReplied, logAccepted, logBy, logged}
+use Rattle.history.specs.Log.{Log, Accepting, accepts, refuses, accepting, logStarted, stateWith, logPassed, logAsked, logEnded, logFlight, logConflicts, logCounted, logReplied, logAccepted, logBy, logged}
 use Rattle.history.specs.Course.{Event, began, passed, met, stayed, repliedEvent, commandEvent, eventBy, eventOf}
 use Rattle.history.specs.Moments.{BracketIffCounted}
 
@@ -43,7 +43,7 @@ finding-counted Taken l peer b edges = (λ h. inl refl, λ s. (b, refl))
 finding-counted Kept l peer b edges = neither (λ n. n)
 
 command-counted : (l : Log) (c : Command) → CountedBy (commandEvent (l .state) c) l (logAccepted l c)
-unfolding logAccepted logStarted stateWith logPassed logAsked logEnded logReplied
+unfolding logAccepted logStarted stateWith logPassed logAsked logEnded logFlight logReplied
 command-counted l (C.Start board rule claim edges) = neither (λ n. n)
 command-counted l (C.Pass ticks) = neither (λ n. n)
 command-counted l (C.Request peer) = neither (λ n. n)
@@ -53,6 +53,7 @@ command-counted l (C.Drop peer) = neither (λ n. n)
 command-counted l C.Read = neither (λ n. n)
 command-counted l C.Waiting = neither (λ n. n)
 command-counted l (C.Window slot start end) = neither (λ n. n)
+command-counted l (C.Flight peer out back) = neither (λ n. n)
 
 pub bracket-iff-counted : BracketIffCounted
 unfolding eventOf logged

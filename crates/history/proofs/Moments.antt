@@ -1,11 +1,14 @@
--- The set that demand 3 uses is the set of the moments at which some course stands.
+-- The set that demand 3 uses is the set of the moments at which some course stands; and an empty bracket admits no course.
 use mathlib.Core.Path.{_≡_, refl, sym, ap, subst}
 use mathlib.Core.List.{List, [], _∷_, _++_}
 use mathlib.Core.Logic.{_⊎_, inl, inr}
 use lib.IntN.{ℤ}
+use Rattle.moment.specs.Intervals.{Holds}
+use Rattle.moment.specs.declared.Interval.{Interval}
+use Rattle.moment.proofs.IntervalLaws.{disordered}
 use Rattle.history.specs.Log.{Input, Log, logStart, logged}
 use Rattle.history.specs.Course.{Event, began, passed, met, stayed, eventOf, advanced, noCourse, coursesAfter}
-use Rattle.history.specs.Moments.{Begins, within-edges, Step, gains, stays-in-bracket, just-stays, Onward, at-end, next, Course, before-start, at-start, SomeStandsAt, SecondSet}
+use Rattle.history.specs.Moments.{Begins, within-edges, Step, gains, stays-in-bracket, just-stays, Onward, at-end, next, Course, before-start, at-start, SomeStandsAt, SecondSet, EmptyAdmitsNone}
 
 -- the last of a list of moments, or x if it has none
 abbrev lastOf : ℤ → List ℤ → ℤ
@@ -100,3 +103,11 @@ second-set inputs m = (λ s. go (found logStart noCourse inputs m s), back)
 
     back : SomeStandsAt inputs m → coursesAfter logStart noCourse inputs m
     back c = subst (λ (z : ℤ). coursesAfter logStart noCourse inputs z) (last-is m (c .earlier) m) (course-in m noCourse (c .course))
+
+-- where a line has a bracket, a course steps over it only from a moment of the bracket
+step-held : {bracket : Interval} {x y : ℤ} → Step (met bracket) x y → Holds bracket x
+step-held (stays-in-bracket h) = h
+
+-- in an empty bracket no moment lies
+pub empty-admits-none : EmptyAdmitsNone
+empty-admits-none l i bracket x y e empty step = disordered bracket x empty (step-held (subst (λ (v : Event). Step v x y) e step))

@@ -21,7 +21,7 @@ use Rattle.keeper.specs.State.{State}
 use Rattle.keeper.specs.Refusals.{keeperCauses, causes, refusal, replyBracket, replyVerdict}
 use Rattle.keeper.proofs.Causes.{accepted-none}
 use Rattle.writing.specs.Puts.{leastOutput}
-use Rattle.history.specs.Log.{Input, Log, Accepting, accepts, refuses, acceptedCommand, accepting, logStarted, stateWith, logPassed, logAsked, logEnded, logCounted, logReplied, logAccepted, logBy, logged, logAfter}
+use Rattle.history.specs.Log.{Input, Log, Accepting, accepts, refuses, acceptedCommand, accepting, logStarted, stateWith, logPassed, logAsked, logEnded, logFlight, logCounted, logReplied, logAccepted, logBy, logged, logAfter}
 use Rattle.history.specs.Course.{Event, began, passed, met, stayed, repliedEvent, commandEvent, eventBy, eventOf}
 use Rattle.history.specs.Moments.{Begins, within-edges, Onward, at-end, next, Course, before-start, at-start, OneStart, OneForEachLine}
 
@@ -70,6 +70,7 @@ command-starts l (C.Drop peer) e n = absurd n
 command-starts l C.Read e n = absurd n
 command-starts l C.Waiting e n = absurd n
 command-starts l (C.Window slot start end) e n = absurd n
+command-starts l (C.Flight peer out back) e n = absurd n
 
 line-starts : (l : Log) (i : Input) {m : ℤ} → Begins (eventOf (l .state) i) m → (l .state .started ≡ false) × (logged l i .state .started ≡ true)
 unfolding eventOf logged
@@ -87,7 +88,7 @@ counted-started Taken l s on = on
 counted-started Kept l s on = on
 
 command-started : (l : Log) (c : Command) → l .state .started ≡ true → logAccepted l c .state .started ≡ true
-unfolding logAccepted logStarted stateWith logPassed logAsked logEnded logReplied
+unfolding logAccepted logStarted stateWith logPassed logAsked logEnded logFlight logReplied
 command-started l (C.Start board rule claim edges) on = refl
 command-started l (C.Pass ticks) on = on
 command-started l (C.Request peer) on = on
@@ -96,6 +97,7 @@ command-started l (C.Drop peer) on = on
 command-started l C.Read on = on
 command-started l C.Waiting on = on
 command-started l (C.Window slot start end) on = on
+command-started l (C.Flight peer out back) on = on
 
 line-started : (l : Log) (i : Input) → l .state .started ≡ true → logged l i .state .started ≡ true
 unfolding logged

@@ -16,10 +16,10 @@ use Rattle.moment.specs.declared.Interval.{Interval}
 use Rattle.rules.specs.Rules.{widened}
 use Rattle.rules.specs.declared.Rule.{Rule}
 use Rattle.keeper.specs.State.{countsAsStarted, stateOf, fresh}
-use Rattle.keeper.specs.Apply.{begun, changed, passedTo, asked, ended}
+use Rattle.keeper.specs.Apply.{begun, changed, passedTo, asked, ended, withFlight}
 use Rattle.keeper.specs.declared.Keeper.{Keeper}
 use Rattle.keeper.proofs.StartedLaws.{Sized, fresh-not-started}
-use Rattle.history.specs.Log.{logStart, logStarted, stateWith, logPassed, logAsked, logEnded}
+use Rattle.history.specs.Log.{logStart, logStarted, stateWith, logPassed, logAsked, logEnded, logFlight}
 
 -- a value stored at a place of a list, read at every place
 set-updated : (l : List ℕ) (p v : ℕ) → p < length l → (q : ℕ) → updated (λ r. getD l r 0) p v q ≡ getD (set l p v) q 0
@@ -53,6 +53,8 @@ fresh-state =
       waits = λ q. sym (bit-beyond 0 0 q (omega arith) (omega arith)) i;
       tag = λ q. zeros 16 q i;
       sentAt = λ q. zeros 16 q i;
+      out = λ q. zeros 16 q i;
+      back = λ q. zeros 16 q i;
     }
 
 -- Start: the log leaves its own values where the keeper takes a fresh one's, which are the same.
@@ -74,6 +76,8 @@ begun-state board rule claim edges after =
       waits = bitOf (fresh .waiting);
       tag = λ q. getD (fresh .tags) q 0;
       sentAt = λ q. getD (fresh .«sent_at») q 0;
+      out = λ q. getD (fresh .out) q 0;
+      back = λ q. getD (fresh .back) q 0;
     }
 
 -- The other commands come after a start.
@@ -101,6 +105,8 @@ module _ (k : Keeper) (before : countsAsStarted k ≡ true) where
         waits = λ q. w q i;
         tag = λ q. t q i;
         sentAt = λ q. s q i;
+        out = λ q. getD (k .out) q 0;
+        back = λ q. getD (k .back) q 0;
       }
 
   pub passed-state : (n : ℕ) → let after = passedTo k (widened (k .claim) n (k .edges)) (k .ticks + n) in
@@ -126,3 +132,25 @@ module _ (k : Keeper) (before : countsAsStarted k ≡ true) where
       (set-updated (k .tags) p 0 (omega arith))
       (set-updated (k .«sent_at») p 0 (omega arith))
       after
+
+  -- the flight times of one peer, and nothing else
+  pub flight-state : (p out back : ℕ) → Sized k → p < 16 → countsAsStarted (withFlight k p out back) ≡ true
+      → logFlight (stateOf k) p out back ≡ stateOf (withFlight k p out back)
+  unfolding logFlight withFlight stateOf
+  flight-state p out back sized small after =
+      λ i.
+      record {
+        started = (before ∙ sym after) i;
+        board = k .board;
+        rule = k .rule;
+        claim = k .claim;
+        edges = k .edges;
+        ticks = k .ticks;
+        requests = k .requests;
+        conflicts = k .conflicts;
+        waits = bitOf (k .waiting);
+        tag = λ q. getD (k .tags) q 0;
+        sentAt = λ q. getD (k .«sent_at») q 0;
+        out = λ q. set-updated (k .out) p out (omega (arith, small, sized .out)) q i;
+        back = λ q. set-updated (k .back) p back (omega (arith, small, sized .back)) q i;
+      }

@@ -1,4 +1,4 @@
--- Start, pass, request and the end of a request keep the invariant.
+-- Start, pass, request, the end of a request and a flight keep the invariant.
 use mathlib.Core.Path.{_≡_, refl, _∙_, ap, subst, fun-ext}
 use mathlib.Core.Bool.{true, false}
 use Prim.Native.Nat.{ℕ, _+_, _-_, _*_, _^_, _≤_, _<_}
@@ -17,15 +17,16 @@ use Rattle.rules.specs.Rules.{widened}
 use Rattle.rules.specs.declared.Rule.{Rule}
 use Rattle.rules.proofs.Limits.{widened-within}
 use Rattle.rules.proofs.Sets.{passed-within, passed-reached}
+use Rattle.flights.specs.Flights.{flightWithin}
 use Rattle.command.specs.Limits.{keeps, formOf}
 use Rattle.command.specs.declared.Command.the-variants as C
 use Rattle.keeper.specs.State.{countsAsStarted, stateOf, fresh, mostTicks, mostRequests}
-use Rattle.keeper.specs.Apply.{begun, changed, passedTo, asked, ended}
+use Rattle.keeper.specs.Apply.{begun, changed, passedTo, asked, ended, withFlight}
 use Rattle.keeper.specs.declared.Keeper.{Keeper}
-use Rattle.keeper.proofs.StartedLaws.{Started, started-read, begun-sized, passed-sized, asked-sized, ended-sized, begun-kept, passed-kept, asked-kept, ended-kept}
-use Rattle.history.specs.Log.{logStarted, logPassed, logAsked, logEnded, withState}
+use Rattle.keeper.proofs.StartedLaws.{Started, started-read, begun-sized, passed-sized, asked-sized, ended-sized, flight-sized, begun-kept, passed-kept, asked-kept, ended-kept, flight-kept}
+use Rattle.history.specs.Log.{logStarted, logPassed, logAsked, logEnded, logFlight, withState}
 use Rattle.history.specs.Course.{advanced, passed}
-use Rattle.history.proofs.States.{begun-state, passed-state, asked-state, ended-state}
+use Rattle.history.proofs.States.{begun-state, passed-state, asked-state, ended-state, flight-state}
 use Rattle.history.proofs.Invariant.{logOf, Follows, KeeperInvariant, Invariant}
 
 -- A request that is sent is one more that waits, and one that ends is one less.
@@ -126,6 +127,35 @@ module _ (k : Keeper) (taken kept dropped : ℕ) (stands : ℤ → Type 0) (held
               sized = asked-sized (held .sized) p small free;
               unstarted = λ e. absurd (clash after e);
               sum = let old = held .sum in omega (arith, count-set (k .waiting) p small free);
+              follows =
+                  record {
+                    within = held .follows .within;
+                    no-conflict = held .follows .no-conflict;
+                    reached = λ r s. held .follows .reached r before;
+                  };
+            };
+      }
+
+  -- flight times are set: no course moves
+  pub flight-invariant : countsAsStarted k ≡ true
+      → (p out back : ℕ)
+      → p < 16
+      → flightWithin out ≡ true
+      → flightWithin back ≡ true
+      → Invariant (withState (logOf k taken kept dropped) (logFlight (stateOf k) p out back)) (withFlight k p out back) stands
+  unfolding withFlight
+  flight-invariant before p out back small o b =
+      let after = flight-kept k p out back (held .sized) before small o b in
+      record {
+        taken = taken;
+        kept = kept;
+        dropped = dropped;
+        same = ap (withState (logOf k taken kept dropped)) (flight-state k before p out back (held .sized) small after);
+        holds =
+            record {
+              sized = flight-sized (held .sized) p out back;
+              unstarted = λ e. absurd (clash after e);
+              sum = held .sum;
               follows =
                   record {
                     within = held .follows .within;

@@ -78,6 +78,8 @@ module _ (l : Log) (k : Keeper) (stands : ℤ → Type 0) (h : Invariant l k sta
         waits = λ p s. refl;
         tag = λ p s. refl;
         sentAt = λ p s. refl;
+        out = λ p s. refl;
+        back = λ p s. refl;
       })
 
   sums-up : l .state .requests ≡ l .taken + l .kept + l .state .conflicts + l .dropped + countBelow 16 (l .state .waits)

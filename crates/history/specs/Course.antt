@@ -1,4 +1,5 @@
--- Courses: document 01, 'A course', with the brackets of document 02, order 5. The set of the moments at which some course stands is a predicate on moments.
+-- Courses: document 01, 'A course', with the brackets of document 02, orders 5 and 7: 'A course must now lie in the shifted bracket, and an empty one
+-- admits no course'. The set of the moments at which some course stands is a predicate on moments.
 use mathlib.Core.Path.{_≡_}
 use mathlib.Core.List.{List, [], _∷_}
 use Prim.Native.Nat.{ℕ, _*_, _≤_}
@@ -36,6 +37,7 @@ commandEvent s (C.Drop peer) = stayed
 commandEvent s C.Read = stayed
 commandEvent s C.Waiting = stayed
 commandEvent s (C.Window slot start end) = stayed
+commandEvent s (C.Flight peer out back) = stayed
 
 abbrev pub eventBy : State → Accepting → Event
 eventBy s (accepts c) = commandEvent s c

@@ -36,6 +36,8 @@ pub record IsTheLog (k : Keeper) (l : Log) : Type 0 where
   pub waits : (p : ℕ) → p < 16 → bitOf (k .waiting) p ≡ l .state .waits p
   pub tag : (p : ℕ) → p < 16 → getD (k .tags) p 0 ≡ l .state .tag p
   pub sentAt : (p : ℕ) → p < 16 → getD (k .«sent_at») p 0 ≡ l .state .sentAt p
+  pub out : (p : ℕ) → p < 16 → getD (k .out) p 0 ≡ l .state .out p
+  pub back : (p : ℕ) → p < 16 → getD (k .back) p 0 ≡ l .state .back p
 
 -- Of the keeper and the log after the list, and of the moments at which some course stands.
 pub record Demand3 (inputs : List Input) : Type 0 where

@@ -1,4 +1,4 @@
--- The log: document 01, 'The log'. It 'is worked from that list alone and reads nothing from the keeper'.
+-- The log: document 01, 'The log', and document 02, order 7. It 'is worked from that list alone and reads nothing from the keeper'.
 use mathlib.Core.Bool.{Bool, true, false}
 use mathlib.Core.List.{List, [], _∷_}
 use Prim.Native.Nat.{ℕ, _+_}
@@ -52,6 +52,8 @@ logStart =
             waits = λ p. false;
             tag = λ p. 0;
             sentAt = λ p. 0;
+            out = λ p. 0;
+            back = λ p. 0;
           };
       taken = 0;
       kept = 0;
@@ -73,9 +75,11 @@ logStarted s board rule claim edges =
       waits = s .waits;
       tag = s .tag;
       sentAt = s .sentAt;
+      out = s .out;
+      back = s .back;
     }
 
--- The state with what commands change after the start: edges, ticks, requests, conflicts, which peers wait, their tags, and their tick counts.
+-- The state with what passes, requests, replies and drops change: edges, ticks, requests, conflicts, which peers wait, their tags, and their tick counts.
 unfoldable pub stateWith : State → Interval → ℕ → ℕ → ℕ → (ℕ → Bool) → (ℕ → ℕ) → (ℕ → ℕ) → State
 stateWith s edges ticks requests conflicts waits tag sentAt =
     record {
@@ -90,6 +94,8 @@ stateWith s edges ticks requests conflicts waits tag sentAt =
       waits = waits;
       tag = tag;
       sentAt = sentAt;
+      out = s .out;
+      back = s .back;
     }
 
 -- 'pass of n: the lower edge gains n shortest ticks, the upper n longest, the ticks n'
@@ -109,6 +115,25 @@ unfoldable pub logEnded : State → ℕ → Interval → ℕ → State
 logEnded s peer edges conflicts =
     stateWith s edges (s .ticks) (s .requests) conflicts (updated (s .waits) peer false) (updated (s .tag) peer 0)
     (updated (s .sentAt) peer 0)
+
+-- flight: 'sets them', and nothing else moves
+unfoldable pub logFlight : State → ℕ → ℕ → ℕ → State
+logFlight s peer out back =
+    record {
+      started = s .started;
+      board = s .board;
+      rule = s .rule;
+      claim = s .claim;
+      edges = s .edges;
+      ticks = s .ticks;
+      requests = s .requests;
+      conflicts = s .conflicts;
+      waits = s .waits;
+      tag = s .tag;
+      sentAt = s .sentAt;
+      out = updated (s .out) peer out;
+      back = updated (s .back) peer back;
+    }
 
 -- the log with another state, and the same counts
 abbrev pub withState : Log → State → Log
@@ -148,6 +173,8 @@ logAccepted l C.Read = l
 logAccepted l C.Waiting = l
 -- of a window too nothing moves: document 02, order 3
 logAccepted l (C.Window slot start end) = l
+-- 'A command added later is logged by its own rules': order 7
+logAccepted l (C.Flight peer out back) = withState l (logFlight (l .state) peer out back)
 
 -- A line is accepted where no cause of a refusal holds: the output is large enough, the line is a command, and the causes that ask about the
 -- keeper do not hold 'on the log's own values'.

@@ -5,6 +5,7 @@ use mathlib.Core.List.{List, [], _∷_, _++_}
 use mathlib.Core.Logic.{_↔_, _⊎_}
 use Prim.Native.Nat.{ℕ, _+_, _≤_}
 use lib.IntN.{ℤ, pos, _+ℤ_}
+use lib.Signed.{_<ℤ_}
 use lib.ListN.{length}
 use Rattle.moment.specs.Intervals.{Holds}
 use Rattle.moment.specs.declared.Interval.{Interval}
@@ -58,6 +59,13 @@ abbrev pub OneForEachLine : Type 0
 OneForEachLine =
     (l : Log) (earlier later : List Input) (i : Input) (x : ℤ) (ms : List ℤ) → Begins (eventOf (logAfter l earlier .state) i) x
     → Course l (earlier ++ i ∷ later) ms → length ms ≡ length (i ∷ later)
+
+-- 'A course must now lie in the shifted bracket, and an empty one admits no course' (document 02, order 7): over a line with an empty bracket no
+-- course takes a step, from any moment.
+abbrev pub EmptyAdmitsNone : Type 0
+EmptyAdmitsNone =
+    (l : Log) (i : Input) (bracket : Interval) (x y : ℤ) → eventOf (l .state) i ≡ met bracket → bracket .upper <ℤ bracket .lower
+    → Step (eventOf (l .state) i) x y → ⊥
 
 -- A line has a bracket in which a course must lie exactly if 'the log counts [it] as taken or conflict'.
 abbrev pub BracketIffCounted : Type 0

@@ -1,4 +1,4 @@
--- One list of lines in which a reply is taken, one is kept, one conflicts and one request is dropped, all under mm.
+-- One list of lines in which a reply is taken, one is kept, one conflicts and one request is dropped, all under mm; and one with flight times.
 use mathlib.Core.List.{List, [], _∷_}
 use Prim.Native.String.{String}
 use Rattle.text.specs.Words.{bytes}
@@ -34,4 +34,14 @@ allRun =
     ∷ "(drop 7)"
     ∷ "(read)"
     ∷ "(pass x)"
+    ∷ [])
+
+-- Out 1000 and back 2000: the bracket of the reply runs from 1000050 - 1000000 + 2000 through 1000150 - 1000, which is 2050 through 999150.
+abbrev pub flightRun : List Input
+flightRun =
+    inputsOf
+    ("(start 3 im 0 (0 2000100))"
+    ∷ "(flight 4 (1000 2000))"
+    ∷ "(request 4)"
+    ∷ "(reply 4 1 (1000050 1000150))"
     ∷ [])

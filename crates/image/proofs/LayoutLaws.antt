@@ -1,7 +1,7 @@
 -- The laws of the layout: what an image that can be read has, and the length of a keeper's image.
 use mathlib.Core.Path.{_≡_, refl, ap, _∙_}
 use mathlib.Core.Bool.{Bool, true, false, _&&_}
-use mathlib.Core.List.{List}
+use mathlib.Core.List.{List, _++_}
 use Prim.Native.Nat.{ℕ, _+_, _≤_}
 use native.Mathlib.Omega.{arith}
 use borrow.Author.Tests.{eqb-true, leb-true}
@@ -10,7 +10,7 @@ use lib.ListN.{length, getD, length-append}
 use Rattle.bits.proofs.Tests.{both}
 use Rattle.keeper.specs.declared.Keeper.{Keeper}
 use Rattle.image.specs.Bytes.{lowestFirst, eachLowestFirst}
-use Rattle.image.specs.Layout.{imageLength, version, readable, ownBytes, peerBytes, imageOf}
+use Rattle.image.specs.Layout.{imageLength, version, readable, ownBytes, peerBytes, flightBytes, imageOf}
 use Rattle.image.proofs.StoreLaws.{length-each}
 
 -- what an image that can be read has: the length, the version, and bytes for started and rule
@@ -26,9 +26,20 @@ pub readable-length : (l : List ℕ) → readable l ≡ true → length l ≡ im
 readable-length l e = readable-parts l e .0
 
 -- an image has its length
-pub image-length : (k : Keeper) → length (k .tags) ≡ 16 → length (k .«sent_at») ≡ 16 → length (imageOf k) ≡ imageLength
-unfolding imageOf lowestFirst
-image-length k t s =
-    length-append (ownBytes k) (peerBytes k)
-    ∙ ap (λ (n : ℕ). 40 + n) (length-append (eachLowestFirst 4 (k .tags)) (eachLowestFirst 8 (k .«sent_at»)))
-    ∙ omega (arith, length-each 4 (k .tags), length-each 8 (k .«sent_at»), t, s)
+pub own-length : (k : Keeper) → length (ownBytes k) ≡ 40
+unfolding lowestFirst
+own-length k = refl
+
+pub peers-length : (k : Keeper) → length (k .tags) ≡ 16 → length (k .«sent_at») ≡ 16 → length (peerBytes k) ≡ 192
+peers-length k t s =
+    length-append (eachLowestFirst 4 (k .tags)) (eachLowestFirst 8 (k .«sent_at»)) ∙ omega (arith, length-each 4 (k .tags), length-each 8 (k .«sent_at»), t, s)
+
+pub flights-length : (k : Keeper) → length (k .out) ≡ 16 → length (k .back) ≡ 16 → length (flightBytes k) ≡ 128
+flights-length k o b = length-append (eachLowestFirst 4 (k .out)) (eachLowestFirst 4 (k .back)) ∙ omega (arith, length-each 4 (k .out), length-each 4 (k .back), o, b)
+
+pub image-length : (k : Keeper) → length (k .tags) ≡ 16 → length (k .«sent_at») ≡ 16 → length (k .out) ≡ 16 → length (k .back) ≡ 16
+    → length (imageOf k) ≡ imageLength
+unfolding imageOf
+image-length k t s o b =
+    length-append (ownBytes k ++ peerBytes k) (flightBytes k)
+    ∙ omega (arith, length-append (ownBytes k) (peerBytes k), own-length k, peers-length k t s, flights-length k o b)

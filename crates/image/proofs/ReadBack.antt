@@ -14,7 +14,7 @@ use mir.Val.{Fits, ofZ, toZ}
 use mir.Facts.{ofZ-toZ}
 use Rattle.image.specs.Bytes.{number, numbers, lowestFirst, eachLowestFirst}
 use Rattle.rules.specs.Rules.{ruleNumber}
-use Rattle.image.specs.Layout.{imageLength, version, flag, ruleOf, ownBytes, peerBytes, imageOf, readable, keeperAt, keeperIn, AllBelow}
+use Rattle.image.specs.Layout.{imageLength, version, flag, ruleOf, ownBytes, peerBytes, flightBytes, imageOf, readable, keeperAt, keeperIn, AllBelow}
 use Rattle.image.proofs.LayoutLaws.{readable-parts}
 
 -- ---- parts of a list, one after the other
@@ -111,9 +111,13 @@ module _ (l : List ℕ) (long : length l ≡ imageLength) (first : getD l 0 0 �
   unfolding keeperAt
   peers = join 40 64 128 (each-back 16 4 40 l (omega (arith, long)) h) (each-back 16 8 104 l (omega (arith, long)) h)
 
+  flights : flightBytes (keeperAt l) ≡ part 232 128 l
+  unfolding keeperAt
+  flights = join 232 64 64 (each-back 16 4 232 l (omega (arith, long)) h) (each-back 16 4 296 l (omega (arith, long)) h)
+
   whole : imageOf (keeperAt l) ≡ l
   unfolding imageOf part
-  whole = join 0 40 192 own peers ∙ take-all imageLength l (omega (arith, long))
+  whole = join 0 232 128 (join 0 40 192 own peers) flights ∙ take-all imageLength l (omega (arith, long))
 
 -- Every image that can be read is the image of what is read.
 pub read-is-image : (l : List ℕ) → AllBelow 256 l → readable l ≡ true → imageOf (keeperIn l) ≡ l

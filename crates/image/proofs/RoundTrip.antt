@@ -8,7 +8,7 @@ use native.Mathlib.Omega.{arith}
 use borrow.Author.Tests.{eq-eqb}
 use lib.Dec.{eqb, leb}
 use lib.IntN.{ℤ}
-use lib.ListN.{length, getD}
+use lib.ListN.{length, getD, length-append}
 use mir.Syntax.{w64}
 use mir.Val.{SFits, ofZ, toZ}
 use mir.Facts.{fits-ofZ, toZ-ofZ}
@@ -17,9 +17,9 @@ use Rattle.rules.specs.declared.Rule.the-variants.{Im, Mm}
 use Rattle.keeper.specs.declared.Keeper.{Keeper}
 use Rattle.image.specs.Bytes.{number, numbers, lowestFirst, eachLowestFirst}
 use Rattle.rules.specs.Rules.{ruleNumber}
-use Rattle.image.specs.Layout.{flag, ownBytes, peerBytes, imageOf, ruleOf, readable, keeperAt, keeperIn, AllBelow, Fitting}
+use Rattle.image.specs.Layout.{flag, ownBytes, peerBytes, flightBytes, imageOf, ruleOf, readable, keeperAt, keeperIn, AllBelow, Fitting}
 use Rattle.image.proofs.StoreLaws.{length-lowest, length-each}
-use Rattle.image.proofs.LayoutLaws.{image-length}
+use Rattle.image.proofs.LayoutLaws.{own-length, peers-length, image-length}
 
 -- ---- what stands after bytes that are passed over
 
@@ -82,28 +82,67 @@ edge-back z f = ap (toZ w64) (number-front 8 (ofZ w64 z) [] (fits-ofZ f .fits)) 
 
 -- ---- the peers
 
-module _ (k : Keeper) (f : Fitting k) where
-  tags-back : numbers 16 4 40 (ownBytes k ++ peerBytes k) ≡ k .tags
-  unfolding lowestFirst
-  tags-back =
-      numbers-skip (ownBytes k) (peerBytes k) 16 4 0
-      ∙ ap (λ (n : ℕ). numbers n 4 0 (peerBytes k)) (sym (f .tags .0))
-      ∙ numbers-front 4 (k .tags) (eachLowestFirst 8 (k .«sent_at»)) (f .tags .1)
+-- Sixteen numbers whose bytes stand in an image behind `before`, which ends at the place, are read from that place on.
+run-back : (w : ℕ) (before ns after image : List ℕ) (at : ℕ) → image ≡ before ++ (eachLowestFirst w ns ++ after) → at ≡ length before
+    → length ns ≡ 16 → AllBelow (256 ^ w) ns → numbers 16 w at image ≡ ns
+run-back w before ns after image at e place sixteen h =
+    let rest = eachLowestFirst w ns ++ after in
+    let here : at ≡ length before + 0 = omega (arith, place) in
+    ap (numbers 16 w at) e
+    ∙ ap (λ (n : ℕ). numbers 16 w n (before ++ rest)) here
+    ∙ numbers-skip before rest 16 w 0
+    ∙ ap (λ (n : ℕ). numbers n w 0 rest) (sym sixteen)
+    ∙ numbers-front w ns after h
 
-  counts-back : numbers 16 8 104 (ownBytes k ++ peerBytes k) ≡ k .«sent_at»
-  unfolding lowestFirst
+-- an image's bytes from each run of numbers on
+module _ (own t s o b : List ℕ) where
+  from-tags : own ++ (t ++ s) ++ (o ++ b) ≡ own ++ (t ++ (s ++ (o ++ b)))
+  from-tags = simp append-assoc
+
+  from-counts : own ++ (t ++ s) ++ (o ++ b) ≡ (own ++ t) ++ (s ++ (o ++ b))
+  from-counts = simp append-assoc
+
+  from-outs : own ++ (t ++ s) ++ (o ++ b) ≡ (own ++ (t ++ s)) ++ (o ++ b)
+  from-outs = refl
+
+  from-backs : own ++ (t ++ s) ++ (o ++ b) ≡ (own ++ (t ++ s) ++ o) ++ (b ++ [])
+  from-backs = simp (append-assoc, append-nil)
+
+module _ (k : Keeper) (f : Fitting k) where
+  abbrev t : List ℕ
+  t = eachLowestFirst 4 (k .tags)
+
+  abbrev s : List ℕ
+  s = eachLowestFirst 8 (k .«sent_at»)
+
+  abbrev o : List ℕ
+  o = eachLowestFirst 4 (k .out)
+
+  abbrev b : List ℕ
+  b = eachLowestFirst 4 (k .back)
+
+  before-outs : length (ownBytes k ++ peerBytes k) ≡ 232
+  before-outs = length-append (ownBytes k) (peerBytes k) ∙ omega (arith, own-length k, peers-length k (f .tags .0) (f .«sent_at» .0))
+
+  tags-back : numbers 16 4 40 (ownBytes k ++ peerBytes k ++ flightBytes k) ≡ k .tags
+  tags-back = run-back 4 (ownBytes k) (k .tags) (s ++ (o ++ b)) _ 40 (from-tags (ownBytes k) t s o b) (sym (own-length k)) (f .tags .0) (f .tags .1)
+
+  counts-back : numbers 16 8 104 (ownBytes k ++ peerBytes k ++ flightBytes k) ≡ k .«sent_at»
   counts-back =
-      let past : 64 ≡ length (eachLowestFirst 4 (k .tags)) + 0 = omega (arith, length-each 4 (k .tags), f .tags .0) in
-      numbers-skip (ownBytes k) (peerBytes k) 16 8 64
-      ∙ ap (λ (n : ℕ). numbers 16 8 n (peerBytes k)) past
-      ∙ numbers-skip (eachLowestFirst 4 (k .tags)) (eachLowestFirst 8 (k .«sent_at»)) 16 8 0
-      ∙ ap (λ (n : ℕ). numbers n 8 0 (eachLowestFirst 8 (k .«sent_at»))) (sym (f .«sent_at» .0))
-      ∙ ap (numbers (length (k .«sent_at»)) 8 0) (sym (append-nil (eachLowestFirst 8 (k .«sent_at»))))
-      ∙ numbers-front 8 (k .«sent_at») [] (f .«sent_at» .1)
+      let place : 104 ≡ length (ownBytes k ++ t) = omega (arith, length-append (ownBytes k) t, own-length k, length-each 4 (k .tags), f .tags .0) in
+      run-back 8 (ownBytes k ++ t) (k .«sent_at») (o ++ b) _ 104 (from-counts (ownBytes k) t s o b) place (f .«sent_at» .0) (f .«sent_at» .1)
+
+  outs-back : numbers 16 4 232 (ownBytes k ++ peerBytes k ++ flightBytes k) ≡ k .out
+  outs-back = run-back 4 (ownBytes k ++ peerBytes k) (k .out) b _ 232 (from-outs (ownBytes k) t s o b) (sym before-outs) (f .out .0) (f .out .1)
+
+  backs-back : numbers 16 4 296 (ownBytes k ++ peerBytes k ++ flightBytes k) ≡ k .back
+  backs-back =
+      let place : 296 ≡ length (ownBytes k ++ peerBytes k ++ o) = omega (arith, length-append (ownBytes k ++ peerBytes k) o, before-outs, length-each 4 (k .out), f .out .0) in
+      run-back 4 (ownBytes k ++ peerBytes k ++ o) (k .back) [] _ 296 (from-backs (ownBytes k) t s o b) place (f .back .0) (f .back .1)
 
   image-readable : readable (imageOf k) ≡ true
   unfolding readable imageOf lowestFirst
-  image-readable = rw (eq-eqb _ _ (image-length k (f .tags .0) (f .«sent_at» .0)), flag-back (k .started) .1, rule-back (k .rule) .1)
+  image-readable = rw (eq-eqb _ _ (image-length k (f .tags .0) (f .«sent_at» .0) (f .out .0) (f .back .0)), flag-back (k .started) .1, rule-back (k .rule) .1)
 
   at-back : keeperAt (imageOf k) ≡ k
   unfolding keeperAt imageOf number lowestFirst
@@ -120,6 +159,8 @@ module _ (k : Keeper) (f : Fitting k) where
         number-front 2 (k .waiting) [] (f .waiting),
         tags-back,
         counts-back,
+        outs-back,
+        backs-back,
       )
 
 -- What was stored is what is loaded.

@@ -9,6 +9,7 @@ use Rattle.keeper.specs.State.{countsAsStarted, fresh}
 use Rattle.keeper.specs.declared.Keeper.{Keeper}
 use Rattle.bits.proofs.Tests.{by-test}
 use Rattle.moment.proofs.Within.{within-read, lower-fits, upper-fits}
+use Rattle.flights.proofs.FlightLaws.{flights-at}
 use Rattle.keeper.proofs.StartedLaws.{Started, Sized, started-read}
 use Rattle.image.specs.Layout.{imageOf, keeperIn, AllBelow, Fitting}
 use Rattle.image.proofs.RoundTrip.{image-read-back}
@@ -30,6 +31,12 @@ module _ (k : Keeper) (c : Started k) (s : Sized k) where
       let peer = c .peers p (omega (arith, l, s .sent)) in
       by-test (bitOf (k .waiting) p) (λ t. omega (arith, peer .waits t .sent, c .ticks)) (λ t. omega (arith, peer .rests t .sent))
 
+  out-below : (p : ℕ) → p < length (k .out) → getD (k .out) p 0 < 256 ^ 4
+  out-below p l = omega (arith, flights-at (k .out) (k .back) (c .flights) p (omega (arith, l, s .out)) .0)
+
+  back-below : (p : ℕ) → p < length (k .back) → getD (k .back) p 0 < 256 ^ 4
+  back-below p l = omega (arith, flights-at (k .out) (k .back) (c .flights) p (omega (arith, l, s .back)) .1)
+
   started-fitting : Fitting k
   started-fitting =
       let edges = within-read (k .edges) (c .edges) in
@@ -44,6 +51,8 @@ module _ (k : Keeper) (c : Started k) (s : Sized k) where
         waiting = omega (arith, s .mask);
         tags = (s .tags, all-below (256 ^ 4) (k .tags) tag-below);
         «sent_at» = (s .sent, all-below (256 ^ 8) (k .«sent_at») count-below);
+        out = (s .out, all-below (256 ^ 4) (k .out) out-below);
+        back = (s .back, all-below (256 ^ 4) (k .back) back-below);
       }
 
 zeros-below : (bound n : ℕ) → 0 < bound → AllBelow bound (replicate n 0)
@@ -64,6 +73,8 @@ fresh-fitting =
       waiting = omega arith;
       tags = (refl, zeros-below (256 ^ 4) 16 (omega arith));
       «sent_at» = (refl, zeros-below (256 ^ 8) 16 (omega arith));
+      out = (refl, zeros-below (256 ^ 4) 16 (omega arith));
+      back = (refl, zeros-below (256 ^ 4) 16 (omega arith));
     }
 
 -- A keeper that a run makes, one that counts as started or a fresh one, is read back from its image.

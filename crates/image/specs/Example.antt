@@ -1,4 +1,5 @@
--- One image to the byte, to hold beside the layout: a keeper under mm with a negative lower edge, and two peers that wait.
+-- One image to the byte, to hold beside the layout: a keeper under mm with a negative lower edge, two peers that wait, and two flight
+-- times.
 use mathlib.Core.Bool.{true}
 use mathlib.Core.List.{List, [], _∷_, _++_}
 use Prim.Native.Nat.{ℕ}
@@ -8,7 +9,8 @@ use Rattle.moment.specs.Intervals.{interval}
 use Rattle.rules.specs.declared.Rule.the-variants.{Mm}
 use Rattle.keeper.specs.declared.Keeper.{Keeper}
 
--- Edges -5 and 2; peers 4 and 15 wait, with tags 258 and 7 since ticks 10 and 4294967297.
+-- Edges -5 and 2; peers 4 and 15 wait, with tags 258 and 7 since ticks 10 and 4294967297; the out time of peer 4 is 1000000000, the back time of
+-- peer 15 is 513.
 abbrev pub exampleKeeper : Keeper
 exampleKeeper =
     record {
@@ -23,11 +25,13 @@ exampleKeeper =
       waiting = 32784;
       tags = replicate 4 0 ++ (258 ∷ []) ++ replicate 10 0 ++ (7 ∷ []);
       «sent_at» = replicate 4 0 ++ (10 ∷ []) ++ replicate 10 0 ++ (4294967297 ∷ []);
+      out = replicate 4 0 ++ (1000000000 ∷ []) ++ replicate 11 0;
+      back = replicate 15 0 ++ (513 ∷ []);
     }
 
 abbrev pub exampleImage : List ℕ
 exampleImage =
-    (1 ∷ 1 ∷ 3 ∷ 1 ∷ [])
+    (2 ∷ 1 ∷ 3 ∷ 1 ∷ [])
     ++ (200 ∷ 0 ∷ 16 ∷ 128 ∷ [])
     ++ (251 ∷ 255 ∷ 255 ∷ 255 ∷ 255 ∷ 255 ∷ 255 ∷ 255 ∷ [])
     ++ (2 ∷ 0 ∷ 0 ∷ 0 ∷ 0 ∷ 0 ∷ 0 ∷ 0 ∷ [])
@@ -35,3 +39,5 @@ exampleImage =
     ++ (2 ∷ 1 ∷ 0 ∷ 0 ∷ 1 ∷ 0 ∷ 0 ∷ 0 ∷ [])
     ++ replicate 16 0 ++ (2 ∷ 1 ∷ 0 ∷ 0 ∷ []) ++ replicate 40 0 ++ (7 ∷ 0 ∷ 0 ∷ 0 ∷ [])
     ++ replicate 32 0 ++ (10 ∷ 0 ∷ 0 ∷ 0 ∷ 0 ∷ 0 ∷ 0 ∷ 0 ∷ []) ++ replicate 80 0 ++ (1 ∷ 0 ∷ 0 ∷ 0 ∷ 1 ∷ 0 ∷ 0 ∷ 0 ∷ [])
+    ++ replicate 16 0 ++ (0 ∷ 202 ∷ 154 ∷ 59 ∷ []) ++ replicate 44 0
+    ++ replicate 60 0 ++ (1 ∷ 2 ∷ 0 ∷ 0 ∷ [])

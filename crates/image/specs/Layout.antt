@@ -1,8 +1,10 @@
--- A keeper as an image: 232 bytes, numbers lowest byte first, so that a board can keep it over a reset and go on. By place:
---     0 version (1)   1 started (0, 1)   2 board   3 rule (0 im, 1 mm)   4 claim, 2 bytes   6 the waiting peers' bits, 2 bytes
+-- A keeper as an image: 360 bytes, numbers lowest byte first, so that a board can keep it over a reset and go on. By place:
+--     0 version (2)   1 started (0, 1)   2 board   3 rule (0 im, 1 mm)   4 claim, 2 bytes   6 the waiting peers' bits, 2 bytes
 --     8 lower edge, 16 upper edge: 8 bytes each, in two's complement     24 ticks, 8 bytes
 --     32 requests sent, 36 conflict count: 4 bytes each
 --     40 the sixteen peers' tags, 4 bytes each      104 their tick counts, 8 bytes each
+--     232 their out times, 296 their back times: 4 bytes each
+-- Version 1 had 232 bytes, without the flight times of document 02, order 7.
 use mathlib.Core.Path.{_≡_}
 use mathlib.Core.Bool.{Bool, true, false, _&&_}
 use mathlib.Core.List.{List, [], _∷_, _++_}
@@ -22,10 +24,10 @@ use Rattle.keeper.specs.declared.Keeper.{Keeper}
 use Rattle.image.specs.Bytes.{number, numbers, lowestFirst, eachLowestFirst}
 
 abbrev pub imageLength : ℕ
-imageLength = 232
+imageLength = 360
 
 abbrev pub version : ℕ
-version = 1
+version = 2
 
 abbrev pub flag : Bool → ℕ
 flag true = 1
@@ -50,13 +52,17 @@ countBytes k = lowestFirst 8 (k .ticks) ++ lowestFirst 4 (k .requests) ++ lowest
 abbrev pub peerBytes : Keeper → List ℕ
 peerBytes k = eachLowestFirst 4 (k .tags) ++ eachLowestFirst 8 (k .«sent_at»)
 
+-- places 232 to 359
+abbrev pub flightBytes : Keeper → List ℕ
+flightBytes k = eachLowestFirst 4 (k .out) ++ eachLowestFirst 4 (k .back)
+
 -- all but the peers' places
 abbrev pub ownBytes : Keeper → List ℕ
 ownBytes k = headBytes k ++ edgeBytes (k .edges) ++ countBytes k
 
 -- The image of a keeper.
 unfoldable pub imageOf : Keeper → List ℕ
-imageOf k = ownBytes k ++ peerBytes k
+imageOf k = ownBytes k ++ peerBytes k ++ flightBytes k
 
 -- A buffer after a keeper was stored into it: one of another length is left as it was.
 unfoldable pub imageAfter : List ℕ → Keeper → List ℕ
@@ -86,6 +92,8 @@ keeperAt l =
       waiting = number 2 6 l;
       tags = numbers 16 4 40 l;
       «sent_at» = numbers 16 8 104 l;
+      out = numbers 16 4 232 l;
+      back = numbers 16 4 296 l;
     }
 
 -- The keeper of an image: one that can't be read counts as not started, as a fresh keeper does.
@@ -109,3 +117,5 @@ pub record Fitting (k : Keeper) : Type 0 where
   pub waiting : k .waiting < 256 ^ 2
   pub tags : (length (k .tags) ≡ 16) × AllBelow (256 ^ 4) (k .tags)
   pub «sent_at» : (length (k .«sent_at») ≡ 16) × AllBelow (256 ^ 8) (k .«sent_at»)
+  pub out : (length (k .out) ≡ 16) × AllBelow (256 ^ 4) (k .out)
+  pub back : (length (k .back) ≡ 16) × AllBelow (256 ^ 4) (k .back)

@@ -9,10 +9,10 @@ ghost use lib.ListN.{length};
 ghost use Rattle.image.specs.Layout.{imageLength};
 
 // The length of an image.
-pub const IMAGE_BYTES: usize = 232;
+pub const IMAGE_BYTES: usize = 360;
 
 // The first byte of every image of this layout.
-pub const VERSION: u8 = 1;
+pub const VERSION: u8 = 2;
 
 // Whether a buffer has the length of an image.
 pub fn is_image(bytes: &[u8]) -> bool

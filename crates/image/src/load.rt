@@ -15,18 +15,18 @@ ghost use lib.ListN.{length};
 ghost use Rattle.image.specs.Bytes.{numbers};
 ghost use Rattle.image.specs.Layout.{imageLength, keeperIn, keeperAt, readable, ruleOf};
 
-// The sixteen tags from a place on.
-fn load_tags(image: &[u8], at: usize) -> [u32; 16]
+// The sixteen numbers of 4 bytes from a place on: the tags, or flight times.
+fn load_16_4(image: &[u8], at: usize) -> [u32; 16]
     requires { ⌜ at + 64 ≤ length (now image) ⌝ }
     ensures { λ r. ⌜ r ≡ numbers 16 4 at (now (image .entry)) ⌝ }
 {
-    let mut tags = [0u32; 16];
+    let mut loaded = [0u32; 16];
     let mut p = 0;
     while p < 16 {
-        tags[p] = load_4(image, at + 4 * p);
+        loaded[p] = load_4(image, at + 4 * p);
         p += 1;
     }
-    tags
+    loaded
 }
 
 // The sixteen tick counts from a place on.
@@ -83,8 +83,10 @@ fn load_all(image: &[u8]) -> Keeper
         requests: load_4(image, 32),
         conflicts: load_4(image, 36),
         waiting: load_2(image, 6),
-        tags: load_tags(image, 40),
+        tags: load_16_4(image, 40),
         sent_at: load_counts(image, 104),
+        out: load_16_4(image, 232),
+        back: load_16_4(image, 296),
     }
 }
 

@@ -15,17 +15,17 @@ ghost use lib.ListN.{length};
 ghost use Rattle.bits.specs.Choice.{choose};
 ghost use Rattle.image.specs.Bytes.{eachLowestFirst, stored};
 ghost use Rattle.rules.specs.Rules.{ruleNumber};
-ghost use Rattle.image.specs.Layout.{imageLength, flag, markBytes, headBytes, edgeBytes, countBytes, ownBytes, peerBytes, imageAfter};
+ghost use Rattle.image.specs.Layout.{imageLength, flag, markBytes, headBytes, edgeBytes, countBytes, ownBytes, peerBytes, flightBytes, imageAfter};
 
-// The sixteen tags from a place on.
-fn store_tags(image: &mut [u8], at: usize, tags: &[u32])
+// The sixteen numbers of 4 bytes from a place on: the tags, or flight times.
+fn store_16_4(image: &mut [u8], at: usize, numbers: &[u32])
     requires { ⌜ at + 64 ≤ length (now image) ⌝ }
-    requires { ⌜ length (now tags) ≡ 16 ⌝ }
-    ensures { λ _. ⌜ now (image .exit) ≡ stored (now (image .entry)) at (eachLowestFirst 4 (now (tags .entry))) ⌝ }
+    requires { ⌜ length (now numbers) ≡ 16 ⌝ }
+    ensures { λ _. ⌜ now (image .exit) ≡ stored (now (image .entry)) at (eachLowestFirst 4 (now (numbers .entry))) ⌝ }
 {
     let mut p = 0;
     while p < 16 {
-        store_4(image, at + 4 * p, tags[p]);
+        store_4(image, at + 4 * p, numbers[p]);
         p += 1;
     }
 }
@@ -104,8 +104,17 @@ fn store_peers(image: &mut [u8], keeper: Keeper)
     requires { ⌜ length (now image) ≡ imageLength ⌝ }
     ensures { λ _. ⌜ now (image .exit) ≡ stored (now (image .entry)) 40 (peerBytes keeper) ⌝ }
 {
-    store_tags(image, 40, &keeper.tags);
+    store_16_4(image, 40, &keeper.tags);
     store_counts(image, 104, &keeper.sent_at);
+}
+
+// Places 232 to 359.
+fn store_flights(image: &mut [u8], keeper: Keeper)
+    requires { ⌜ length (now image) ≡ imageLength ⌝ }
+    ensures { λ _. ⌜ now (image .exit) ≡ stored (now (image .entry)) 232 (flightBytes keeper) ⌝ }
+{
+    store_16_4(image, 232, &keeper.out);
+    store_16_4(image, 296, &keeper.back);
 }
 
 // All but the peers.
@@ -128,4 +137,5 @@ pub fn store(image: &mut [u8], keeper: Keeper)
     }
     store_own(image, keeper);
     store_peers(image, keeper);
+    store_flights(image, keeper);
 }

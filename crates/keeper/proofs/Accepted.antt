@@ -17,14 +17,15 @@ use Rattle.rules.specs.declared.Finding.{Finding}
 use Rattle.rules.specs.declared.Finding.the-variants.{Conflict, Taken, Kept}
 use Rattle.rules.proofs.Limits.{widened-within}
 use Rattle.rules.proofs.VerdictLaws.{outward-from, judged-within}
-use Rattle.command.specs.Limits.{boardWithin, tagWithin}
+use Rattle.flights.specs.Flights.{flightWithin}
+use Rattle.command.specs.Limits.{boardWithin, tagWithin, keeps, formOf}
 use Rattle.command.specs.Causes.{ownCauses}
 use Rattle.command.specs.declared.Command.{Command}
 use Rattle.command.specs.declared.Command.the-variants as C
 use Rattle.command.proofs.LimitLaws.{board-bound}
 use Rattle.keeper.specs.State.{stateOf, countsAsStarted, mostTicks}
 use Rattle.keeper.specs.Refusals.{waited, replyBracket, replyVerdict, keeperCauses, causes, refusal}
-use Rattle.keeper.specs.Apply.{outcomeOf, changed, passedTo, asked, ended, replied, accepted, apply, numberOf}
+use Rattle.keeper.specs.Apply.{outcomeOf, changed, passedTo, asked, ended, withFlight, replied, accepted, apply, numberOf}
 use Rattle.keeper.specs.declared.Keeper.{Keeper}
 use Rattle.keeper.specs.declared.Outcome.{Outcome}
 use Rattle.keeper.specs.declared.Answer.{Answer}
@@ -32,7 +33,7 @@ use Rattle.keeper.specs.declared.Answer.the-variants as A
 use Rattle.keeper.proofs.Causes.{accepted-none}
 use Rattle.keeper.proofs.CallLaws.{apply-refused, apply-accepted}
 use Rattle.keeper.proofs.Returned.{apply-number}
-use Rattle.keeper.proofs.StartedLaws.{Sized, started-read, begun-sized, passed-sized, asked-sized, ended-sized, begun-kept, passed-kept, asked-kept, ended-kept}
+use Rattle.keeper.proofs.StartedLaws.{Sized, started-read, begun-sized, passed-sized, asked-sized, ended-sized, flight-sized, begun-kept, passed-kept, asked-kept, ended-kept, flight-kept}
 
 -- the count after a reply gains at most 1
 count-most : (n : ℕ) (finding : Finding) → conflictsAfter n finding ≤ n + 1
@@ -41,6 +42,14 @@ count-most n Taken = omega arith
 count-most n Kept = omega arith
 
 -- ---- a keeper counts as started after every command that it accepted
+
+-- the limits of a flight, each by itself
+pub flight-limits : (peer out back : ℕ) → keeps (formOf (C.Flight peer out back)) ≡ true
+    → (boardWithin peer ≡ true) × (flightWithin out ≡ true) × (flightWithin back ≡ true)
+flight-limits peer out back e =
+    let (front, b) = both (boardWithin peer && flightWithin out) (flightWithin back) e in
+    let (p, o) = both (boardWithin peer) (flightWithin out) front in
+    (p, o, b)
 
 module _ (k : Keeper) (sized : Sized k) where
   start-starts : (board : ℕ) (rule : Rule) (claim : ℕ) (edges : Interval) → let c = C.Start board rule claim edges in
@@ -75,7 +84,7 @@ module _ (k : Keeper) (sized : Sized k) where
       let small = board-bound peer (both (boardWithin peer) (tagWithin tag) (limits .0) .0) in
       let w = waited (stateOf k) peer in
       ended-kept k peer _ _ sized before (omega arith) (both _ _ (not-false _ (c .1 .1 .1 .0)) .0)
-      (judged-within (bracket (k .claim) w reply) (outward (k .claim) w) reply (k .edges) (outward-from (k .claim) w) (limits .1) (started-read k before .edges) (k .rule)
+      (judged-within (bracket (k .claim) w (stateOf k .out peer) (stateOf k .back peer) reply) (outward (k .claim) w) reply (k .edges) (outward-from (k .claim) w) (limits .1) (started-read k before .edges) (k .rule)
       (c .1 .1 .1 .1 .1 .0))
       (count-most (k .conflicts) (replyVerdict (stateOf k) peer reply .finding))
 
@@ -87,6 +96,14 @@ module _ (k : Keeper) (sized : Sized k) where
       let small = board-bound peer (not-false _ (c .0)) in
       ended-kept k peer (k .edges) (k .conflicts) sized before (omega arith) (not-false _ (c .1 .1 .1 .0)) (started-read k before .edges) (omega arith)
 
+  flight-starts : (peer out back : ℕ) → refusal (stateOf k) (C.Flight peer out back) ≡ 0 → countsAsStarted (accepted k (C.Flight peer out back) .keeper) ≡ true
+  unfolding accepted causes ownCauses keeperCauses stateOf
+  flight-starts peer out back e =
+      let c = accepted-none (stateOf k) (C.Flight peer out back) e in
+      let (p, o, b) = flight-limits peer out back (not-false _ (c .0)) in
+      let small = board-bound peer p in
+      flight-kept k peer out back sized (not-false _ (c .1 .0)) (omega arith) o b
+
   command-starts : (c : Command) → refusal (stateOf k) c ≡ 0 → countsAsStarted (accepted k c .keeper) ≡ true
   unfolding accepted causes ownCauses keeperCauses stateOf
   command-starts (C.Start board rule claim edges) e = start-starts board rule claim edges e
@@ -97,6 +114,7 @@ module _ (k : Keeper) (sized : Sized k) where
   command-starts C.Read e = not-false _ (accepted-none (stateOf k) C.Read e .1 .0)
   command-starts C.Waiting e = not-false _ (accepted-none (stateOf k) C.Waiting e .1 .0)
   command-starts (C.Window slot start end) e = not-false _ (accepted-none (stateOf k) (C.Window slot start end) e .1 .1 .1 .0)
+  command-starts (C.Flight peer out back) e = flight-starts peer out back e
 
   pub accepted-starts : (c : Command) → numberOf (apply k c .answer) ≡ 0 → countsAsStarted (apply k c .keeper) ≡ true
   accepted-starts c e =
@@ -117,6 +135,7 @@ module _ (k : Keeper) (sized : Sized k) where
   command-sized C.Read e = sized
   command-sized C.Waiting e = sized
   command-sized (C.Window slot start end) e = sized
+  command-sized (C.Flight peer out back) e = flight-sized sized peer out back
 
   pub apply-sized : (c : Command) → Sized (apply k c .keeper)
   apply-sized c =
@@ -142,6 +161,7 @@ Changed (A.Dropped peer) k l = (peer ≤ 15) × Moved k l (ended k peer (k .edge
 Changed (A.Time edges centre error conflicts waiting) k l = Moved k l k
 Changed A.Waiting k l = Moved k l k
 Changed (A.Heater slot window) k l = Moved k l k
+Changed (A.Flight peer) k l = (peer ≤ 15) × (out : ℕ) × (back : ℕ) × Moved k l (withFlight k peer out back)
 Changed (A.Refused n) k l = (n ≡ 0 → ⊥) × (l ≡ k)
 
 module _ (k : Keeper) where
@@ -163,6 +183,9 @@ module _ (k : Keeper) where
   command-changes C.Waiting e = record { started = not-false _ (accepted-none (stateOf k) C.Waiting e .1 .0); next-is = refl }
   command-changes (C.Window slot start end) e =
       record { started = not-false _ (accepted-none (stateOf k) (C.Window slot start end) e .1 .1 .1 .0); next-is = refl }
+  command-changes (C.Flight peer out back) e =
+      let c = accepted-none (stateOf k) (C.Flight peer out back) e in
+      (board-bound peer (flight-limits peer out back (not-false _ (c .0)) .0), out, back, record { started = not-false _ (c .1 .0); next-is = refl })
 
   abbrev after : Command → Bool → Outcome
   after c t = choose t (λ _. accepted k c) (λ _. outcomeOf (A.Refused (refusal (stateOf k) c)) k)

@@ -20,6 +20,7 @@ causes-numbered s (C.Drop peer) = refl
 causes-numbered s C.Read = refl
 causes-numbered s C.Waiting = refl
 causes-numbered s (C.Window slot start end) = refl
+causes-numbered s (C.Flight peer out back) = refl
 
 causes-small : (s : State) (c : Command) → small (causes s c) ≡ true
 unfolding causes ownCauses keeperCauses
@@ -31,6 +32,7 @@ causes-small s (C.Drop peer) = refl
 causes-small s C.Read = refl
 causes-small s C.Waiting = refl
 causes-small s (C.Window slot start end) = refl
+causes-small s (C.Flight peer out back) = refl
 
 pub refused-first : (s : State) (c : Command) (n : ℕ) → refusal s c ≡ suc n → FirstCause (causes s c) (suc n)
 unfolding refusal

@@ -27,6 +27,7 @@ isList (A.Dropped peer) = false
 isList (A.Time edges centre error conflicts waiting) = false
 isList A.Waiting = true
 isList (A.Heater slot window) = false
+isList (A.Flight peer) = false
 isList (A.Refused n) = false
 
 -- an accepted command that answers it is the list's own
@@ -40,6 +41,7 @@ accepted-list k (C.Drop peer) e h = absurd (clash h refl)
 accepted-list k C.Read e h = absurd (clash h refl)
 accepted-list k C.Waiting e h = not-false _ (accepted-none (stateOf k) C.Waiting e .1 .0)
 accepted-list k (C.Window slot start end) e h = absurd (clash h refl)
+accepted-list k (C.Flight peer out back) e h = absurd (clash h refl)
 
 pub listed-started : (k : Keeper) (c : Command) → apply k c .answer ≡ A.Waiting → countsAsStarted (apply k c .keeper) ≡ true
 unfolding apply isList

@@ -24,6 +24,7 @@ accepted-number k (C.Drop peer) = refl
 accepted-number k C.Read = refl
 accepted-number k C.Waiting = refl
 accepted-number k (C.Window slot start end) = refl
+accepted-number k (C.Flight peer out back) = refl
 
 pub apply-number : (k : Keeper) (c : Command) → numberOf (apply k c .answer) ≡ refusal (stateOf k) c
 apply-number k c =

@@ -14,13 +14,15 @@ use Rattle.bits.proofs.Below.{updated-same, updated-other, count-same, count-up
 use Rattle.bits.proofs.BitLaws.{bit-set, bit-cleared, bit-room, bit-beyond}
 use Rattle.peers.specs.Peers.{peerKept, tagsDiffer, peersKept}
 use Rattle.peers.proofs.PeerLaws.{apart-read, apart-made}
+use Rattle.flights.specs.Flights.{flightWithin, flightsKept}
+use Rattle.flights.proofs.FlightLaws.{flights-none, flights-set}
 use Rattle.moment.specs.declared.Interval.{Interval}
 use Rattle.moment.specs.Intervals.{edgesWithin}
 use Rattle.rules.specs.declared.Rule.{Rule}
 use Rattle.command.specs.Limits.{boardWithin, claimWithin, keeps, formOf}
 use Rattle.command.specs.declared.Command.the-variants as C
 use Rattle.keeper.specs.State.{mostTicks, mostRequests, numbersKept, countsAsStarted, fresh}
-use Rattle.keeper.specs.Apply.{begun, changed, passedTo, asked, ended}
+use Rattle.keeper.specs.Apply.{begun, changed, passedTo, asked, ended, withFlight}
 use Rattle.keeper.specs.declared.Keeper.{Keeper}
 
 -- ---- the clauses of 'counts as started'
@@ -51,6 +53,7 @@ pub record Started (k : Keeper) : Type 0 where
   pub itself : bitOf (k .waiting) (k .board) ≡ false
   pub peers : (p : ℕ) → p < 16 → Peer k p
   pub apart : (p q : ℕ) → p < 16 → q < p → bitOf (k .waiting) p ≡ true → bitOf (k .waiting) q ≡ true → getD (k .tags) p 0 ≡ getD (k .tags) q 0 → ⊥
+  pub flights : flightsKept (k .out) (k .back) ≡ true
 
 either : (b x y : Bool) → (b && x) || (not b && y) ≡ true → (b ≡ true → x ≡ true) × (b ≡ false → y ≡ true)
 either true x y e = (λ h. go x e, λ h. absurd (clash refl h))
@@ -102,6 +105,7 @@ started-read k e =
     let (h4, h5) = both _ _ numbers in
     let (h6, e) = both _ _ e in
     let (h7, e) = both _ _ e in
+    let (e, h10) = both _ _ e in
     let (h8, h9) = both _ _ e in
     record {
       started = h0;
@@ -114,6 +118,7 @@ started-read k e =
       itself = not-true _ h7;
       peers = λ p l. peer-read k p (all-at 16 (kept k) h8 p l);
       apart = λ p q l m. apart-read (k .waiting) (k .tags) p q (all-at p (differ k p) (all-at 16 (λ p. allBelow p (differ k p)) h9 p l) q m);
+      flights = h10;
     }
 
 pub started-made : {k : Keeper} → Started k → countsAsStarted k ≡ true
@@ -127,8 +132,10 @@ started-made {k} c =
     (join (le-leb _ _ (c .ticks)) (le-leb _ _ (c .requests))))))
     (join (le-leb _ _ (c .count))
     (join (ap not (c .itself))
+    (join
     (join (all-made 16 (kept k) (λ p l. peer-made k p (c .peers p l)))
-    (all-made 16 (λ p. allBelow p (differ k p)) (λ p l. all-made p (differ k p) (λ q m. apart-made (k .waiting) (k .tags) p q (c .apart p q l m))))))))
+    (all-made 16 (λ p. allBelow p (differ k p)) (λ p l. all-made p (differ k p) (λ q m. apart-made (k .waiting) (k .tags) p q (c .apart p q l m)))))
+    (c .flights)))))
 
 -- a waiting peer's tick count is not above the ticks
 pub sent-by : (k : Keeper) (p : ℕ) → Started k → p ≤ 15 → bitOf (k .waiting) p ≡ true → getD (k .«sent_at») p 0 ≤ k .ticks
@@ -140,26 +147,33 @@ pub record Sized (k : Keeper) : Type 0 where
   pub mask : k .waiting < 2 ^ 16
   pub tags : length (k .tags) ≡ 16
   pub sent : length (k .«sent_at») ≡ 16
+  pub out : length (k .out) ≡ 16
+  pub back : length (k .back) ≡ 16
 
 pub fresh-sized : Sized fresh
 unfolding fresh
-fresh-sized = record { mask = omega arith; tags = refl; sent = refl }
+fresh-sized = record { mask = omega arith; tags = refl; sent = refl; out = refl; back = refl }
 
 pub begun-sized : (board : ℕ) (rule : Rule) (claim : ℕ) (edges : Interval) → Sized (begun board rule claim edges)
 unfolding begun
-begun-sized board rule claim edges = record { mask = omega arith; tags = refl; sent = refl }
+begun-sized board rule claim edges = record { mask = omega arith; tags = refl; sent = refl; out = refl; back = refl }
 
 pub passed-sized : {k : Keeper} → Sized k → (edges : Interval) (ticks : ℕ) → Sized (passedTo k edges ticks)
 unfolding passedTo changed
-passed-sized s edges ticks = record { mask = s .mask; tags = s .tags; sent = s .sent }
+passed-sized s edges ticks = record { mask = s .mask; tags = s .tags; sent = s .sent; out = s .out; back = s .back }
 
 pub asked-sized : {k : Keeper} → Sized k → (p : ℕ) → p < 16 → bitOf (k .waiting) p ≡ false → Sized (asked k p)
 unfolding asked changed
-asked-sized {k} s p h e = record { mask = bit-room 16 (k .waiting) p (s .mask) h e; tags = length-set (k .tags) p (k .requests + 1) ∙ s .tags; sent = length-set (k .«sent_at») p (k .ticks) ∙ s .sent }
+asked-sized {k} s p h e = record { mask = bit-room 16 (k .waiting) p (s .mask) h e; tags = length-set (k .tags) p (k .requests + 1) ∙ s .tags; sent = length-set (k .«sent_at») p (k .ticks) ∙ s .sent; out = s .out; back = s .back }
 
 pub ended-sized : {k : Keeper} → Sized k → (p : ℕ) → (edges : Interval) (conflicts : ℕ) → Sized (ended k p edges conflicts)
 unfolding ended changed
-ended-sized {k} s p edges conflicts = record { mask = omega arith; tags = length-set (k .tags) p 0 ∙ s .tags; sent = length-set (k .«sent_at») p 0 ∙ s .sent }
+ended-sized {k} s p edges conflicts = record { mask = omega arith; tags = length-set (k .tags) p 0 ∙ s .tags; sent = length-set (k .«sent_at») p 0 ∙ s .sent; out = s .out; back = s .back }
+
+pub flight-sized : {k : Keeper} → Sized k → (p out back : ℕ) → Sized (withFlight k p out back)
+unfolding withFlight
+flight-sized {k} s p out back =
+    record { mask = s .mask; tags = s .tags; sent = s .sent; out = length-set (k .out) p out ∙ s .out; back = length-set (k .back) p back ∙ s .back }
 
 -- ---- what one peer holds, after its values were set
 
@@ -262,6 +276,7 @@ begun-kept board rule claim edges e =
       peers = λ p l.
           record { waits = λ w. absurd (clash w (no-bit p)); rests = λ w. record { tag = getD-replicate 16 p 0 0 l; sent = getD-replicate 16 p 0 0 l } };
       apart = λ p q l m wp wq same. clash wp (no-bit p);
+      flights = flights-none;
     })
 
 pub passed-kept : (k : Keeper) (edges : Interval) (ticks : ℕ) → countsAsStarted k ≡ true → edgesWithin edges ≡ true → k .ticks ≤ ticks → ticks ≤ mostTicks → countsAsStarted (passedTo k edges ticks) ≡ true
@@ -284,6 +299,7 @@ passed-kept k edges ticks e within up most =
             rests = λ w. let o = c .peers p l .rests w in record { tag = o .tag; sent = o .sent };
           };
       apart = c .apart;
+      flights = c .flights;
     })
 
 pub asked-kept : (k : Keeper) (p : ℕ) → Sized k → countsAsStarted k ≡ true → p < 16 → (p ≡ k .board → ⊥) → bitOf (k .waiting) p ≡ false → k .requests < mostRequests → countsAsStarted (asked k p) ≡ true
@@ -309,6 +325,7 @@ asked-kept k p s e h other free room =
       itself = changed-elsewhere changed (k .board) (λ b. other (sym b)) .bit ∙ c .itself;
       peers = changed-peers changed c (omega arith) (omega arith) peer;
       apart = changed-apart changed c here (λ w q l wq same. let o = c .peers q l .waits wq in omega arith);
+      flights = c .flights;
     })
 
 pub ended-kept : (k : Keeper) (p : ℕ) (edges : Interval) (conflicts : ℕ) → Sized k → countsAsStarted k ≡ true → p < 16 → bitOf (k .waiting) p ≡ true → edgesWithin edges ≡ true → conflicts ≤ k .conflicts + 1 → countsAsStarted (ended k p edges conflicts) ≡ true
@@ -331,4 +348,29 @@ ended-kept k p edges conflicts s e h waits within most =
       itself = changed-elsewhere changed (k .board) (λ b. clash waits (rw b at (c .itself))) .bit ∙ c .itself;
       peers = changed-peers changed c (omega arith) (omega arith) peer;
       apart = changed-apart changed c here (λ w q l wq same. clash w refl);
+      flights = c .flights;
+    })
+
+pub flight-kept : (k : Keeper) (p out back : ℕ) → Sized k → countsAsStarted k ≡ true → p < 16 → flightWithin out ≡ true → flightWithin back ≡ true
+    → countsAsStarted (withFlight k p out back) ≡ true
+unfolding withFlight
+flight-kept k p out back s e h o b =
+    let c = started-read k e in
+    started-made
+    (record {
+      started = c .started;
+      board = c .board;
+      claim = c .claim;
+      edges = c .edges;
+      ticks = c .ticks;
+      requests = c .requests;
+      count = c .count;
+      itself = c .itself;
+      peers = λ q l.
+          record {
+            waits = λ w. let x = c .peers q l .waits w in record { least = x .least; most = x .most; sent = x .sent };
+            rests = λ w. let x = c .peers q l .rests w in record { tag = x .tag; sent = x .sent };
+          };
+      apart = c .apart;
+      flights = flights-set (k .out) (k .back) p out back (omega (arith, s .out)) (omega (arith, s .back)) o b (c .flights);
     })

@@ -1,4 +1,4 @@
--- What each command does to a keeper, and what it answers: document 01, 'The calls', and document 02, orders 3 and 5.
+-- What each command does to a keeper, and what it answers: document 01, 'The calls', and document 02, orders 3, 5 and 7.
 use mathlib.Core.Bool.{true}
 use mathlib.Core.List.{List}
 use Prim.Native.Nat.{ℕ, _+_, _-_, _^_}
@@ -42,10 +42,12 @@ begun board rule claim edges =
       waiting = fresh .waiting;
       tags = fresh .tags;
       «sent_at» = fresh .«sent_at»;
+      out = fresh .out;
+      back = fresh .back;
     }
 
--- The keeper with what commands change after its start: edges, ticks, requests, conflicts, the mask of the waiting peers, their tags, and
--- their tick counts. All else is as it was.
+-- The keeper with what passes, requests, replies and drops change: edges, ticks, requests, conflicts, the mask of the waiting peers, their tags, and
+-- their tick counts. All else is as it was, the flight times too.
 unfoldable pub changed : Keeper → Interval → ℕ → ℕ → ℕ → ℕ → List ℕ → List ℕ → Keeper
 changed k edges ticks requests conflicts waiting tags sent =
     record {
@@ -60,6 +62,8 @@ changed k edges ticks requests conflicts waiting tags sent =
       waiting = waiting;
       tags = tags;
       «sent_at» = sent;
+      out = k .out;
+      back = k .back;
     }
 
 -- Pass: other edges and another tick count.
@@ -80,6 +84,25 @@ unfoldable pub ended : Keeper → ℕ → Interval → ℕ → Keeper
 unfolding changed
 ended k peer edges conflicts =
     changed k edges (k .ticks) (k .requests) conflicts (k .waiting - 2 ^ peer) (set (k .tags) peer 0) (set (k .«sent_at») peer 0)
+
+-- 'sets them': the keeper with another out time and another back time of the peer, and all else as it was.
+unfoldable pub withFlight : Keeper → ℕ → ℕ → ℕ → Keeper
+withFlight k peer out back =
+    record {
+      started = k .started;
+      board = k .board;
+      rule = k .rule;
+      claim = k .claim;
+      edges = k .edges;
+      ticks = k .ticks;
+      requests = k .requests;
+      conflicts = k .conflicts;
+      waiting = k .waiting;
+      tags = k .tags;
+      «sent_at» = k .«sent_at»;
+      out = set (k .out) peer out;
+      back = set (k .back) peer back;
+    }
 
 -- A reply, by its verdict: the edges become the verdict's, a conflict counts, and the request is over.
 unfoldable pub replied : Keeper → ℕ → Verdict → Outcome
@@ -102,6 +125,8 @@ accepted k C.Waiting = outcomeOf A.Waiting k
 -- '`(open SLOT)` if every moment from the keeper's lower through its upper edge is inside, `(shut SLOT)` if none is, and otherwise `(unsure SLOT)`',
 -- and 'Windows use told edges' (order 5)
 accepted k (C.Window slot start end) = outcomeOf (A.Heater slot (windowState (spanOf start end) (told (k .claim) (k .edges)))) k
+-- '`(flight PEER (OUT BACK))` sets them and writes `(flight PEER)`' (order 7)
+accepted k (C.Flight peer out back) = outcomeOf (A.Flight peer) (withFlight k peer out back)
 
 -- What a command does: 'The keeper stays as it was in every row' of the refusals.
 unfoldable pub apply : Keeper → Command → Outcome
@@ -119,4 +144,5 @@ numberOf (A.Dropped peer) = 0
 numberOf (A.Time edges c e conflicts waiting) = 0
 numberOf A.Waiting = 0
 numberOf (A.Heater slot window) = 0
+numberOf (A.Flight peer) = 0
 numberOf (A.Refused n) = n

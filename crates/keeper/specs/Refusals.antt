@@ -1,5 +1,5 @@
 -- Causes of a refusal, in document 01's order. 'The first cause that holds is given, tried in the order .. 2, 3, 4; then for request 6, 9; for
--- reply 7, 8, the conflict test, 5; for drop 7; for pass 5.' (10 and 1 come before, where the line is looked at; 2 is
+-- reply 7, 8, the conflict test, 5; for drop 7; for pass 5', and for flight 6, 'after 4' (document 02, order 7). (10 and 1 come before, where the line is looked at; 2 is
 -- a command's own, and so are 11 and 12 of a window, 'both after 2 and before 3'.)
 use mathlib.Core.Bool.{not, _&&_}
 use mathlib.Core.List.{List, [], _∷_, _++_}
@@ -19,9 +19,9 @@ use Rattle.keeper.specs.State.{State, mostTicks, mostRequests}
 abbrev pub waited : State → ℕ → ℕ
 waited s peer = s .ticks - s .sentAt peer
 
--- The bracket of a reply, and what the reply comes to.
+-- The bracket of a reply, by the flight times of its peer, and what the reply comes to.
 unfoldable pub replyBracket : State → ℕ → Interval → Interval
-replyBracket s peer reply = bracket (s .claim) (waited s peer) reply
+replyBracket s peer reply = bracket (s .claim) (waited s peer) (s .out peer) (s .back peer) reply
 
 unfoldable pub replyVerdict : State → ℕ → Interval → Verdict
 replyVerdict s peer reply =
@@ -49,6 +49,8 @@ keeperCauses s (C.Drop peer) = peerCauses s peer ++ cause 7 (not (s .waits peer)
 keeperCauses s C.Read = cause 3 (not (s .started)) ∷ []
 keeperCauses s C.Waiting = cause 3 (not (s .started)) ∷ []
 keeperCauses s (C.Window slot start end) = cause 3 (not (s .started)) ∷ []
+-- 'It is refused with 6 while that peer has a request waiting, after 4.'
+keeperCauses s (C.Flight peer out back) = peerCauses s peer ++ cause 6 (s .waits peer) ∷ []
 
 -- All causes of a command, after 10 and 1.
 unfoldable pub causes : State → Command → List Cause

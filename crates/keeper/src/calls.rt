@@ -5,6 +5,7 @@ use crate::Answer;
 use crate::Keeper;
 use crate::Outcome;
 use crate::refusals::drop_refusal;
+use crate::refusals::flight_refusal;
 use crate::refusals::request_refusal;
 use crate::refusals::wait_refusal;
 use crate::started::MOST_TICKS;
@@ -14,6 +15,7 @@ use crate::steps::ended_with;
 use crate::steps::passed_to;
 use crate::steps::refused;
 use crate::steps::replied_with;
+use crate::steps::with_flight;
 use crate::windows::window_answer;
 use bits::count_of;
 use calendar::Date;
@@ -53,6 +55,8 @@ impl Keeper {
             waiting: 0,
             tags: [0u32; 16],
             sent_at: [0u64; 16],
+            out: [0u32; 16],
+            back: [0u32; 16],
         }
     }
 
@@ -139,7 +143,15 @@ impl Keeper {
         }
         let sent_at = self.sent_at;
         let w = (self.ticks - sent_at[peer as usize]) as u32;
-        let bracket = bracket_of(self.claim, w, edges);
+        let out = self.out;
+        let back = self.back;
+        let bracket = bracket_of(
+            self.claim,
+            w,
+            out[peer as usize],
+            back[peer as usize],
+            edges,
+        );
         let span = outward_span(self.claim, w);
         let rule = self.rule;
         let verdict = judge(rule, bracket, span, edges, self.edges);
@@ -209,6 +221,21 @@ impl Keeper {
             keeper: self,
         }
     }
+
+    // Refused while the peer has a request waiting: the bracket of its reply goes by the times that were set when the request was sent.
+    pub(crate) fn flight(self, started: bool, peer: u8, out: u32, back: u32) -> Outcome
+        requires { ⌜ started ≡ countsAsStarted self ⌝ }
+        ensures { λ r. ⌜ r ≡ apply self (C.Flight peer out back) ⌝ }
+    {
+        let number = flight_refusal(self, started, peer, out, back);
+        if number != 0 {
+            return refused(self, number);
+        }
+        Outcome {
+            answer: Answer::Flight(peer),
+            keeper: with_flight(self, peer, out, back),
+        }
+    }
 }
 
 // A command is the call of its name.
@@ -230,6 +257,7 @@ pub fn apply_command(keeper: Keeper, started: bool, command: Command) -> Outcome
         Command::Read => keeper.read(started),
         Command::Waiting => keeper.waiting(started),
         Command::Window { slot, start, end } => keeper.window(started, slot, start, end),
+        Command::Flight { peer, out, back } => keeper.flight(started, peer, out, back),
     }
 }
 

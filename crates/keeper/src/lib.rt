@@ -1,4 +1,4 @@
-// The keeper of one board's time: document 01, 'Moments and ticks' and 'The calls'.
+// The keeper of one board's time: document 01, 'Moments and ticks' and 'The calls', and document 02, order 7.
 use moment::Interval;
 use rules::Rule;
 use rules::Verdict;
@@ -12,8 +12,9 @@ mod steps;
 mod windows;
 
 // Of each other board (a peer, 0..15): its bit of `waiting` is set while a request to it waits, with the request's tag and the tick
-// count when it was sent; a peer with none waiting holds 0 for both. The order of the fields is the one with which the compiler copies
-// least: the arrays are one block, and the small fields stand where they are kept in registers of their own (docs/DECISIONS.md 27).
+// count when it was sent; a peer with none waiting holds 0 for both. Whether or not one waits, a peer has its flight times, out to it and back from
+// it. The order of the fields is the one with which the compiler copies least: the arrays that requests change are one block, those that only a
+// flight changes another, and the small fields stand where they are kept in registers of their own (docs/DECISIONS.md 27).
 pub struct Keeper {
     pub sent_at: [u64; 16],
     pub tags: [u32; 16],
@@ -26,6 +27,8 @@ pub struct Keeper {
     pub started: bool,
     pub edges: Interval,
     pub ticks: u64,
+    pub out: [u32; 16],
+    pub back: [u32; 16],
 }
 
 // What a command answers. `Refused` has the number of the papers' tables.
@@ -45,6 +48,7 @@ pub enum Answer {
     },
     Waiting,
     Heater(u8, WindowState),
+    Flight(u8),
     Refused(u8),
 }
 

@@ -21,6 +21,7 @@ pub fn number_of(answer: Answer) -> u8
         } => 0,
         Answer::Waiting => 0,
         Answer::Heater(_, _) => 0,
+        Answer::Flight(_) => 0,
         Answer::Refused(n) => n,
     }
 }

@@ -3,6 +3,7 @@ use crate::Keeper;
 use crate::started::MOST_REQUESTS;
 use bits::bit_of;
 use command::limits::board_within;
+use command::limits::flight_within;
 use command::limits::reply_within;
 use moment::Interval;
 use rules::LONGEST_WAIT;
@@ -89,4 +90,18 @@ pub(crate) fn drop_refusal(keeper: Keeper, started: bool, peer: u8) -> u8
         return 7;
     }
     0
+}
+
+pub(crate) fn flight_refusal(keeper: Keeper, started: bool, peer: u8, out: u32, back: u32) -> u8
+    requires { ⌜ started ≡ countsAsStarted keeper ⌝ }
+    ensures { λ r. ⌜ r ≡ refusal (stateOf keeper) (C.Flight peer out back) ⌝ }
+{
+    if !flight_within(peer as u64, out as u64, back as u64) {
+        return 2;
+    }
+    let number = peer_refusal(keeper, started, peer);
+    if number != 0 {
+        return number;
+    }
+    if bit_of(keeper.waiting, peer) { 6 } else { 0 }
 }

@@ -4,6 +4,7 @@ use bits::bit_of;
 use bits::count_of;
 use command::limits::board_within;
 use command::limits::claim_within;
+use flights::flights_kept;
 use moment::Interval;
 use moment::intervals::edges_within;
 use peers::peers_kept;
@@ -60,6 +61,11 @@ impl Keeper {
         // The arrays are lent from locals of their own: to lend a field of `self`, all of `self` would be copied first.
         let tags = self.tags;
         let sent_at = self.sent_at;
-        peers_kept(self.waiting, self.requests, self.ticks, &tags, &sent_at)
+        if !peers_kept(self.waiting, self.requests, self.ticks, &tags, &sent_at) {
+            return false;
+        }
+        let out = self.out;
+        let back = self.back;
+        flights_kept(&out, &back)
     }
 }

@@ -11,7 +11,7 @@ ghost use mathlib.Core.Bool.{true, false};
 ghost use Prim.Native.Nat.{_≤_, _<_, _^_};
 ghost use Rattle.bits.specs.Bits.{bitOf};
 ghost use Rattle.keeper.specs.State.{mostRequests};
-ghost use Rattle.keeper.specs.Apply.{outcomeOf, begun, passedTo, asked, ended, replied};
+ghost use Rattle.keeper.specs.Apply.{outcomeOf, begun, passedTo, asked, ended, replied, withFlight};
 ghost use Rattle.keeper.specs.declared.Answer.the-variants.{Refused};
 
 // A refusal: the keeper stays as it was.
@@ -38,7 +38,24 @@ pub(crate) fn begun_with(board: u8, rule: Rule, claim: u16, edges: Interval) -> 
         waiting: 0,
         tags: [0u32; 16],
         sent_at: [0u64; 16],
+        out: [0u32; 16],
+        back: [0u32; 16],
     }
+}
+
+// The keeper with other flight times of the peer.
+pub(crate) fn with_flight(keeper: Keeper, peer: u8, out_time: u32, back_time: u32) -> Keeper
+    requires { ⌜ peer ≤ 15 ⌝ }
+    ensures { λ r. ⌜ r ≡ withFlight keeper peer «out_time» «back_time» ⌝ }
+{
+    let mut out = keeper.out;
+    out[peer as usize] = out_time;
+    let mut back = keeper.back;
+    back[peer as usize] = back_time;
+    let mut next = keeper;
+    next.out = out;
+    next.back = back;
+    next
 }
 
 // The mask of one peer.

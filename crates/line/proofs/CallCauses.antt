@@ -56,6 +56,7 @@ command-numbered s (Accepted (C.Drop peer)) = refl
 command-numbered s (Accepted C.Read) = refl
 command-numbered s (Accepted C.Waiting) = refl
 command-numbered s (Accepted (C.Window slot start end)) = refl
+command-numbered s (Accepted (C.Flight peer out back)) = refl
 command-numbered s NoShape = refl
 command-numbered s OutsideLimits = refl
 

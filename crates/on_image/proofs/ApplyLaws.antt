@@ -13,7 +13,7 @@ use Rattle.rules.specs.Verdict.{conflictsAfter}
 use Rattle.command.specs.declared.Command.{Command}
 use Rattle.command.specs.declared.Command.the-variants as C
 use Rattle.keeper.specs.State.{fresh, countsAsStarted}
-use Rattle.keeper.specs.Apply.{apply, numberOf, changed, passedTo, asked, ended}
+use Rattle.keeper.specs.Apply.{apply, numberOf, changed, passedTo, asked, ended, withFlight}
 use Rattle.keeper.specs.declared.Keeper.{Keeper}
 use Rattle.keeper.specs.declared.Answer.{Answer}
 use Rattle.keeper.specs.declared.Answer.the-variants as A
@@ -22,8 +22,8 @@ use Rattle.keeper.proofs.Accepted.{Moved, Changed, changed-by, pass-changes}
 use Rattle.lent.specs.Lent.{PassLent}
 use Rattle.image.specs.Layout.{imageLength, imageOf, imageAfter, AllBelow, readable, keeperAt, keeperIn}
 use Rattle.image.proofs.ReadBack.{read-is-image}
-use Rattle.changes.specs.Changes.{passedImage, askedImage, endedImage}
-use Rattle.changes.proofs.ChangeLaws.{passed-image, asked-image, ended-image}
+use Rattle.changes.specs.Changes.{passedImage, askedImage, endedImage, flightImage}
+use Rattle.changes.proofs.ChangeLaws.{passed-image, asked-image, ended-image, flight-image}
 use Rattle.on_image.specs.Apply.{imageLeft, storedAfter}
 
 -- what is stored into a buffer of an image's length
@@ -51,6 +51,8 @@ module _
     (bytes : AllBelow 256 image)
     (tags : length (keeperIn image .tags) ≡ 16)
     (sent : length (keeperIn image .«sent_at») ≡ 16)
+    (outs : length (keeperIn image .out) ≡ 16)
+    (backs : length (keeperIn image .back) ≡ 16)
   where
     image-is : countsAsStarted (keeperIn image) ≡ true → image ≡ imageOf (keeperIn image)
     image-is e = sym (read-is-image image bytes (readable-is image e))
@@ -60,27 +62,29 @@ module _
     stored-into m store e = ap store (image-is (m .started)) ∙ e ∙ ap imageOf (sym (m .next-is))
 
     pass-left : (l : Keeper) → Moved (keeperIn image) l (passedTo (keeperIn image) (l .edges) (l .ticks)) → passedImage image (l .edges) (l .ticks) ≡ imageOf l
-    pass-left l m = stored-into m (λ i. passedImage i (l .edges) (l .ticks)) (passed-image (keeperIn image) tags sent (l .edges) (l .ticks))
+    pass-left l m = stored-into m (λ i. passedImage i (l .edges) (l .ticks)) (passed-image (keeperIn image) tags sent outs backs (l .edges) (l .ticks))
 
     ended-left : (l : Keeper) (peer : ℕ) (edges : Interval) (conflicts : ℕ) → peer ≤ 15 → Moved (keeperIn image) l (ended (keeperIn image) peer edges conflicts)
         → endedImage image (l .waiting) (l .edges) (l .conflicts) peer ≡ imageOf l
     unfolding ended changed
     ended-left l peer edges conflicts small m =
         stored-into m (λ i. endedImage i (l .waiting) (l .edges) (l .conflicts) peer)
-        (rw (m .next-is) (ended-image (keeperIn image) tags sent peer edges conflicts small))
+        (rw (m .next-is) (ended-image (keeperIn image) tags sent outs backs peer edges conflicts small))
 
     stored-left : (a : Answer) (l : Keeper) → Changed a (keeperIn image) l → storedAfter a l image ≡ imageLeft image (numberOf a) l
-    unfolding imageLeft passedTo asked changed
+    unfolding imageLeft passedTo asked changed withFlight
     stored-left (A.Started board) l h = store-whole image whole l refl
     stored-left (A.At ticks edges) l m =
-        stored-into m (λ i. passedImage i (l .edges) (l .ticks)) (rw (m .next-is) (passed-image (keeperIn image) tags sent edges ticks))
+        stored-into m (λ i. passedImage i (l .edges) (l .ticks)) (rw (m .next-is) (passed-image (keeperIn image) tags sent outs backs edges ticks))
     stored-left (A.Sent peer tag) l (small, m) =
-        stored-into m (λ i. askedImage i (l .waiting) (l .requests) peer (l .ticks)) (rw (m .next-is) (asked-image (keeperIn image) tags sent peer small))
+        stored-into m (λ i. askedImage i (l .waiting) (l .requests) peer (l .ticks)) (rw (m .next-is) (asked-image (keeperIn image) tags sent outs backs peer small))
     stored-left (A.Replied peer v) l (small, m) = ended-left l peer (v .edges) (conflictsAfter (keeperIn image .conflicts) (v .finding)) small m
     stored-left (A.Dropped peer) l (small, m) = ended-left l peer (keeperIn image .edges) (keeperIn image .conflicts) small m
     stored-left (A.Time edges centre error conflicts waiting) l m = stored-into m (λ i. i) refl
     stored-left A.Waiting l m = stored-into m (λ i. i) refl
     stored-left (A.Heater slot window) l m = stored-into m (λ i. i) refl
+    stored-left (A.Flight peer) l (small, out, back, m) =
+        stored-into m (λ i. flightImage i peer (l .out) (l .back)) (rw (m .next-is) (flight-image (keeperIn image) tags sent outs backs peer out back small))
     stored-left (A.Refused n) l (some, same) = left-refused image n l some
 
     pub command-stored : (c : Command) → let o = apply (keeperIn image) c in storedAfter (o .answer) (o .keeper) image ≡ imageLeft image (numberOf (o .answer)) (o .keeper)

@@ -14,7 +14,7 @@ use Rattle.writing.specs.Puts.{leastOutput}
 use Rattle.answers.specs.Answers.{lineOf}
 use Rattle.line.specs.Call.{over}
 use Rattle.image.specs.Layout.{imageOf, imageAfter, keeperIn}
-use Rattle.changes.specs.Changes.{passedImage, askedImage, endedImage}
+use Rattle.changes.specs.Changes.{passedImage, askedImage, endedImage, flightImage}
 
 -- The image after a call: that of the keeper that the call gives; a refused call leaves every byte as it was.
 unfoldable pub imageLeft : List ℕ → ℕ → Keeper → List ℕ
@@ -31,6 +31,7 @@ storedAfter (A.Dropped peer) k image = endedImage image (k .waiting) (k .edges) 
 storedAfter (A.Time edges centre error conflicts waiting) k image = image
 storedAfter A.Waiting k image = image
 storedAfter (A.Heater slot window) k image = image
+storedAfter (A.Flight peer) k image = flightImage image peer (k .out) (k .back)
 storedAfter (A.Refused n) k image = image
 
 -- The line that answers a command on the keeper that stands in the image.

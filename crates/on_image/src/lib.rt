@@ -1,6 +1,7 @@
 // A command on the keeper of an image. The image is loaded once, and only what the command changed is stored into it.
 use changes::store_asked;
 use changes::store_ended;
+use changes::store_flight;
 use changes::store_passed;
 use command::Command;
 use image::load::load;
@@ -42,6 +43,12 @@ fn store_changes(image: &mut [u8], answer: Answer, keeper: Keeper)
         } => {}
         Answer::Waiting => {}
         Answer::Heater(_, _) => {}
+        // The arrays are lent from locals of their own, as everywhere.
+        Answer::Flight(peer) => {
+            let out = keeper.out;
+            let back = keeper.back;
+            store_flight(image, peer, &out, &back)
+        }
         Answer::Refused(_) => {}
     }
 }

@@ -16,7 +16,7 @@ use Rattle.text.proofs.WordLaws.{word-found, word-other, found-word, rest-is}
 use Rattle.command.specs.Forms as F
 use Rattle.command.specs.Forms.{Form, Spells, parts, IsSpelling}
 use Rattle.command.specs.Limits.{keeps, commandOf, formOf, numberOf, limited}
-use Rattle.shapes.specs.Shapes.{Values, Shape, startShape, replyShape, numberedShape, bareShape, windowShape, readParts, formed, readAs, shapedFrom, restOf}
+use Rattle.shapes.specs.Shapes.{Values, Shape, startShape, replyShape, numberedShape, bareShape, windowShape, flightShape, readParts, formed, readAs, shapedFrom, restOf}
 use Rattle.reader.specs.Reading.{shapes, byWord, parseAs, parse, wordThen, takenWord, wordOf, wordFrom, longestLine, readingOf}
 use Rattle.shapes.specs.declared.Numbered.the-variants as N
 use Rattle.shapes.specs.declared.Bare.the-variants as B
@@ -37,7 +37,7 @@ AllFit [] = Unit {0}
 AllFit (s ∷ ss) = ((v : Values (s .kinds)) → parts (s .form v) ≡ F.text (s .word) ∷ partsOf (s .kinds) v) × AllFit ss
 
 shapes-fit : AllFit shapes
-shapes-fit = (λ v. refl, (λ v. refl, (λ v. refl, (λ v. refl, (λ v. refl, (λ v. refl, (λ v. refl, (λ v. refl, tt))))))))
+shapes-fit = (λ v. refl, (λ v. refl, (λ v. refl, (λ v. refl, (λ v. refl, (λ v. refl, (λ v. refl, (λ v. refl, (λ v. refl, tt)))))))))
 
 parsed-sound : (ss : List Shape) → AllFit ss → (line : List ℕ) (f : Form) → parseAs ss line ≡ some f → IsSpelling f line
 unfolding parseAs
@@ -120,8 +120,9 @@ parse-complete F.read line h = find-shape 3 (bareShape B.Read) _ line tt refl re
 parse-complete (F.drop peer) line h = find-shape 4 (numberedShape N.Drop) _ line (peer, tt) refl refl refl h
 parse-complete F.waiting line h = find-shape 5 (bareShape B.Waiting) _ line tt refl refl refl h
 parse-complete (F.window slot begins ends) line h = find-shape 6 windowShape _ line (slot, (begins, (ends, tt))) refl refl refl h
+parse-complete (F.flight peer out back) line h = find-shape 7 flightShape _ line (peer, (out, (back, tt))) refl refl refl h
 parse-complete (F.start board rule claim edges) line h =
-    find-shape 7 startShape _ line (board, (rule, (claim, (edges .lower, (edges .upper, tt))))) refl refl refl h
+    find-shape 8 startShape _ line (board, (rule, (claim, (edges .lower, (edges .upper, tt))))) refl refl refl h
 
 -- ---- the word that a form begins with, and the parts that follow it
 
@@ -141,7 +142,7 @@ AllFollow (s ∷ ss) = ((line : List ℕ) (at : ℕ) → restOf (s .named) line 
 
 shapes-follow : AllFollow shapes
 unfolding restOf
-shapes-follow = (λ l a. refl, (λ l a. refl, (λ l a. refl, (λ l a. refl, (λ l a. refl, (λ l a. refl, (λ l a. refl, (λ l a. refl, tt))))))))
+shapes-follow = (λ l a. refl, (λ l a. refl, (λ l a. refl, (λ l a. refl, (λ l a. refl, (λ l a. refl, (λ l a. refl, (λ l a. refl, (λ l a. refl, tt)))))))))
 
 word-then-rest : (ss : List Shape) → AllFollow ss → (line : List ℕ) → restOf (wordOf ss line 0 .0) line (wordOf ss line 0 .1) ≡ readAs (parseAs ss line)
 unfolding wordOf parseAs restOf shapedFrom
@@ -173,6 +174,7 @@ command-form f c e = back f ∙ ap formOf e
     back F.read = refl
     back F.waiting = refl
     back (F.window slot begins ends) = refl
+    back (F.flight peer o b) = refl
 
 form-command : (c : Command) → commandOf (formOf c) ≡ c
 form-command (C.Start board rule claim edges) = refl
@@ -183,6 +185,7 @@ form-command (C.Drop peer) = refl
 form-command C.Read = refl
 form-command C.Waiting = refl
 form-command (C.Window slot start end) = refl
+form-command (C.Flight peer out back) = refl
 
 -- the answer to a line of a form's shape, and to any other
 shaped-reading : (f : Form) (line : List ℕ) → Shaped f line → readingOf line ≡ limited f

@@ -11,7 +11,7 @@ use Rattle.text.specs.declared.words.Word.the-variants.{After, Other}
 use Rattle.command.specs.Forms.{Form}
 use Rattle.command.specs.declared.Reading.{Reading}
 use Rattle.command.specs.declared.Reading.the-variants.{NoShape}
-use Rattle.shapes.specs.Shapes.{Shape, startShape, replyShape, numberedShape, bareShape, windowShape, formed, readAs}
+use Rattle.shapes.specs.Shapes.{Shape, startShape, replyShape, numberedShape, bareShape, windowShape, flightShape, formed, readAs}
 -- passed on for those who compute with `readingOf`
 unfoldable pub use Rattle.shapes.specs.Shapes.{ruleAt, endAt, readParts, shapedFrom}
 use Rattle.shapes.specs.declared.FormWord.{FormWord}
@@ -23,7 +23,7 @@ use Rattle.bits.specs.Choice.{choose}
 
 -- The shapes, in the order in which they are tried: the commonest first, then those that come less often.
 abbrev pub lastShapes : List Shape
-lastShapes = windowShape ∷ startShape ∷ []
+lastShapes = windowShape ∷ flightShape ∷ startShape ∷ []
 
 abbrev pub rareShapes : List Shape
 rareShapes = bareShape Read ∷ numberedShape Drop ∷ bareShape Waiting ∷ lastShapes

@@ -1,4 +1,4 @@
-// The reader of command lines: document 01, 'Line forms', and document 02, orders 3 and 4. It takes a line of any bytes and any length.
+// The reader of command lines: document 01, 'Line forms', and document 02, orders 3, 4 and 7. It takes a line of any bytes and any length.
 use crate::walk::begin;
 use crate::walk::moved;
 use crate::walk::rest;

@@ -44,12 +44,15 @@ fn rare_word(line: &[u8], at: usize) -> WordAt
     last_word(line, at)
 }
 
-// The same of the words that are looked for last: a window's, and the start's, which comes once.
+// The same of the words that are looked for last: a window's, a flight's, and the start's, which comes once.
 fn last_word(line: &[u8], at: usize) -> WordAt
     ensures { λ r. ⌜ r ≡ wordOf lastShapes (now (line .entry)) at ⌝ }
 {
     if let Word::After(next) = word_at(line, at, b"(window ") {
         return WordAt(FormWord::Window, next);
+    }
+    if let Word::After(next) = word_at(line, at, b"(flight ") {
+        return WordAt(FormWord::Flight, next);
     }
     let Word::After(next) = word_at(line, at, b"(start ") else {
         return WordAt(FormWord::Unknown, at);

@@ -90,6 +90,7 @@ form-line (F.drop peer) out = refl
 form-line F.read out = refl
 form-line F.waiting out = refl
 form-line (F.window slot begins ends) out = refl
+form-line (F.flight peer o b) out = refl
 
 pub round-trip : RoundTrip
 round-trip =

@@ -1,4 +1,4 @@
--- What order 5 is for, proved: `between-ticks`.
+-- What orders 5 and 7 are for, proved: `between-ticks`.
 use mathlib.Core.Path.{_≡_, refl}
 use Prim.Native.Nat.{ℕ, _*_}
 use lib.IntN.{ℤ, pos}
@@ -26,15 +26,19 @@ now-told claim edges last now since h =
       through = omega (ints, since .before, since .most, sum last (pos (since .tick)), sum last (pos (longest claim)));
     }
 
-last-bracketed : (claim w : ℕ) (reply : Interval) (asked left last now : ℤ) → SinceTick claim last now → Frame claim w asked left last now → Holds reply left → Holds (bracket claim w reply) last
-last-bracketed claim w reply asked left last now since frame h =
-    bracket-moments claim w reply last (omega (ints, h .from, h .through))
+last-bracketed : (claim w out back : ℕ) (reply : Interval) (asked left last now : ℤ)
+    → SinceTick claim last now → Frame claim w out back asked left last now → Holds reply left → Holds (bracket claim w out back reply) last
+last-bracketed claim w out back reply asked left last now since frame h =
+    bracket-moments claim w out back reply last (omega (ints, h .from, h .through))
     .1
     record {
-      moment = left;
-      within = h;
-      from = omega (ints, since .before, since .most, frame .through, sum last (pos (since .tick)), dif left (pos (longest claim)));
-      through = omega (ints, frame .sum, frame .most, frame .from, sum asked (pos (frame .passed)), sum left (pos (w * longest claim)));
+      earliest = left;
+      earliest-within = h;
+      from = omega (ints, since .before, since .most, frame .back-took, sum last (pos (since .tick)), sum last (pos (longest claim)), sum left (pos back));
+      latest = left;
+      latest-within = h;
+      through =
+          omega (ints, frame .sum, frame .most, frame .from, frame .out-took, frame .answered, sum asked (pos (frame .passed)), sum (frame .sent) (pos out), sum last (pos out), sum left (pos (w * longest claim)));
     }
 
 -- a moment that lies in the bracket and in the edges stays within them, whatever the verdict
@@ -51,7 +55,7 @@ between-ticks =
     record {
       told-holds = now-told;
       bracket-holds = last-bracketed;
-      reply-holds = λ rule claim w reply edges asked left last now since frame h k.
-          stays (last-bracketed claim w reply asked left last now since frame h) k _
-          (judged-sound (bracket claim w reply) _ reply edges (adopted-holds claim w reply) rule);
+      reply-holds = λ rule claim w out back reply edges asked left last now since frame h k.
+          stays (last-bracketed claim w out back reply asked left last now since frame h) k _
+          (judged-sound (bracket claim w out back reply) _ reply edges (adopted-holds claim w out back reply) rule);
     }

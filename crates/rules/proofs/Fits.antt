@@ -89,6 +89,13 @@ module _ (i : Interval) (h : Within i) where
   pub leading-fits : (n : ℕ) → n ≤ 4000000000000 → SFits w64 (i .upper +ℤ pos n)
   leading-fits n l = omega (ints, sum (i .upper) (pos n))
 
+  -- with the flight times of the peer
+  pub later-fits : (n back : ℕ) → n ≤ 4000000000000 → back < 2 ^ 32 → SFits w64 ((i .lower -ℤ pos n) +ℤ pos back)
+  later-fits n back l b = omega (ints, dif (i .lower) (pos n), sum (i .lower -ℤ pos n) (pos back))
+
+  pub sooner-fits : (n out : ℕ) → n ≤ 4000000000000 → out < 2 ^ 32 → SFits w64 ((i .upper +ℤ pos n) -ℤ pos out)
+  sooner-fits n out l o = omega (ints, sum (i .upper) (pos n), dif (i .upper +ℤ pos n) (pos out))
+
   module _ (span : ℤ) (s : Span span) where
     pub lower-out-fits : SFits w64 (i .lower -ℤ span)
     lower-out-fits = omega (ints, dif (i .lower) span)

@@ -1,18 +1,18 @@
 -- The rules as sets of moments: what a pass makes of the moments within the edges, what a reply leaves of them, and what is told of them. Demand
 -- 3 rests on these laws.
-use mathlib.Core.Path.{_≡_}
-use mathlib.Core.Bool.{true, false}
+use mathlib.Core.Path.{_≡_, ap}
+use mathlib.Core.Bool.{true, false, not}
 use mathlib.Core.Logic.{_↔_}
 use Prim.Native.Nat.{ℕ, _+_, _-_, _*_, _≤_, max}
 use native.Mathlib.Nat.{mul-le-mul-left}
 use native.Mathlib.Omega.{arith}
 use borrow.Author.Tests.{not-true}
 use lib.IntN.{ℤ, pos, _+ℤ_, _-ℤ_}
-use lib.Signed.{_≤ℤ_}
+use lib.Signed.{_≤ℤ_, _<ℤ_}
 use Rattle.moment.specs.Moment.{shortest, longest, largerOf, smallerOf}
 use Rattle.moment.specs.declared.Interval.{Interval}
 use Rattle.moment.proofs.Integers.{ints, up, dn, sum, dif, max-is, min-is}
-use Rattle.moment.proofs.IntervalLaws.{meet, share-made}
+use Rattle.moment.proofs.IntervalLaws.{meet, share-made, disordered-first}
 use Rattle.bits.proofs.Tests.{clash}
 use Rattle.rules.specs.Rules.{widened, bracket, conflicting, narrowed, outward, adopted, told}
 use Rattle.moment.specs.Intervals.{interval, Holds, shareOne}
@@ -92,10 +92,47 @@ module _ (i : Interval) (before after : ℕ) (m : ℤ) where
   near-within c =
       omega (ints, c .within, c .from, c .through, dif (i .lower) (pos before), sum (i .upper) (pos after), dif (c .moment) (pos before), sum (c .moment) (pos after))
 
--- The bracket holds the moments from one longest tick before a moment of the reply's edges through w longest ticks after one, and no other.
-pub bracket-moments : (claim w : ℕ) (reply : Interval) (m : ℤ) → reply .lower ≤ℤ reply .upper → Holds (bracket claim w reply) m ↔ Near reply (longest claim) (w * longest claim) m
-unfolding bracket
-bracket-moments claim w reply m order = (near-reached reply (longest claim) (w * longest claim) m order, near-within reply (longest claim) (w * longest claim) m)
+-- The bracket holds the moments that come no earlier than BACK less one longest tick after some moment of the reply's edges, and no later than w
+-- longest ticks less OUT after some moment of them, and no other.
+pub record Bracketed (claim w out back : ℕ) (reply : Interval) (m : ℤ) : Type 0 where
+  pub earliest : ℤ
+  pub earliest-within : Holds reply earliest
+  pub from : (earliest +ℤ pos back) ≤ℤ (m +ℤ pos (longest claim))
+  pub latest : ℤ
+  pub latest-within : Holds reply latest
+  pub through : (m +ℤ pos out) ≤ℤ (latest +ℤ pos (w * longest claim))
+
+module _ (claim w out back : ℕ) (reply : Interval) (m : ℤ) (order : reply .lower ≤ℤ reply .upper) where
+  bracket-reached : Holds (bracket claim w out back reply) m → Bracketed claim w out back reply m
+  unfolding bracket
+  bracket-reached h =
+      let tick = dif (reply .lower) (pos (longest claim)) in
+      let wait = sum (reply .upper) (pos (w * longest claim)) in
+      let lower = sum (reply .lower -ℤ pos (longest claim)) (pos back) in
+      let upper = dif (reply .upper +ℤ pos (w * longest claim)) (pos out) in
+      record {
+        earliest = reply .lower;
+        earliest-within = omega ints;
+        from = omega (ints, sum (reply .lower) (pos back), sum m (pos (longest claim)));
+        latest = reply .upper;
+        latest-within = omega ints;
+        through = omega (ints, sum m (pos out), wait);
+      }
+
+  bracket-within : Bracketed claim w out back reply m → Holds (bracket claim w out back reply) m
+  unfolding bracket
+  bracket-within c =
+      let tick = dif (reply .lower) (pos (longest claim)) in
+      let wait = sum (reply .upper) (pos (w * longest claim)) in
+      let lower = sum (reply .lower -ℤ pos (longest claim)) (pos back) in
+      let upper = dif (reply .upper +ℤ pos (w * longest claim)) (pos out) in
+      record {
+        from = omega (ints, c .earliest-within, c .from, sum (c .earliest) (pos back), sum m (pos (longest claim)));
+        through = omega (ints, c .latest-within, c .through, sum m (pos out), sum (c .latest) (pos (w * longest claim)));
+      }
+
+  pub bracket-moments : Holds (bracket claim w out back reply) m ↔ Bracketed claim w out back reply m
+  bracket-moments = (bracket-reached, bracket-within)
 
 -- The told edges hold the moments from one of the edges through one longest tick after it, and no other.
 pub told-moments : (claim : ℕ) (edges : Interval) (m : ℤ) → edges .lower ≤ℤ edges .upper → Holds (told claim edges) m ↔ Near edges 0 (longest claim) m
@@ -105,6 +142,11 @@ told-moments claim edges m order =
       λ h. near-reached edges 0 (longest claim) m order (record { from = omega ints; through = h .through }),
       λ c. (let h = near-within edges 0 (longest claim) m c in record { from = omega (ints, h .from); through = h .through }),
     )
+
+-- 'a bracket left empty is a conflict', whatever the edges are (order 7)
+pub empty-conflicts : (b edges : Interval) → b .upper <ℤ b .lower → conflicting b edges ≡ true
+unfolding conflicting
+empty-conflicts b edges empty = ap not (disordered-first b edges empty)
 
 -- nothing lies in a bracket and in edges that conflict with it
 pub none-in-both : (b edges : Interval) (m : ℤ) → conflicting b edges ≡ true → Holds b m → Holds edges m → ⊥
@@ -132,8 +174,10 @@ adopted-moments claim w reply m order =
     (near-reached reply all all m order, near-within reply all all m)
 
 -- So they hold the whole bracket.
-pub adopted-holds : (claim w : ℕ) (reply : Interval) (m : ℤ) → Holds (bracket claim w reply) m → Holds (adopted (outward claim w) reply) m
+pub adopted-holds : (claim w out back : ℕ) (reply : Interval) (m : ℤ) → Holds (bracket claim w out back reply) m → Holds (adopted (outward claim w) reply) m
 unfolding bracket adopted outward
-adopted-holds claim w reply m h =
+adopted-holds claim w out back reply m h =
     let all = (w + 1) * longest claim in
-    omega (ints, one-more claim w, dif (reply .lower) (pos (longest claim)), sum (reply .upper) (pos (w * longest claim)), dif (reply .lower) (pos all), sum (reply .upper) (pos all))
+    let lower = sum (reply .lower -ℤ pos (longest claim)) (pos back) in
+    let upper = dif (reply .upper +ℤ pos (w * longest claim)) (pos out) in
+    omega (ints, h .from, h .through, one-more claim w, dif (reply .lower) (pos (longest claim)), sum (reply .upper) (pos (w * longest claim)), dif (reply .lower) (pos all), sum (reply .upper) (pos all))

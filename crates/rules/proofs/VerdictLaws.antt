@@ -22,6 +22,17 @@ use Rattle.rules.proofs.Sets.{none-in-both, met-within, met-reached}
 use Rattle.rules.proofs.Limits.{narrowed-within, adopted-within}
 use Rattle.rules.proofs.Widths.{narrowed-no-wider, adopted-no-wider, adopted-wider}
 
+-- 'The mm adoption is unchanged' by flight times: of two brackets that do not conflict with the edges, whatever they are, rule mm makes the same, the
+-- test of the width and the edges that are adopted alike.
+pub adoption-unchanged : (b c : Interval) (span : ℤ) (reply edges : Interval) → conflicting b edges ≡ false → conflicting c edges ≡ false
+    → judged Mm b span reply edges ≡ judged Mm c span reply edges
+unfolding judged judgedBy
+adoption-unchanged b c span reply edges d e =
+    let by : (x : Interval) → conflicting x edges ≡ false
+    → judged Mm x span reply edges ≡ choose (noWider span reply edges) (λ _. verdict Taken (adopted span reply)) (λ _. verdict Kept edges) =
+    λ x h. ap (λ (t : Bool). choose t (λ _. verdict Conflict edges) (λ _. judgedBy Mm x span reply edges)) h in
+    by b d ∙ sym (by c e)
+
 -- a reply's span is not negative
 pub outward-from : (claim w : ℕ) → pos 0 ≤ℤ outward claim w
 unfolding outward

@@ -1,5 +1,5 @@
 -- The rules on edges: document 01, 'The calls', from MM-1, MM-2, IM-1 and IM-2 of the report, and document 02, order 5: a frame may arrive, or a
--- reading leave, almost a whole tick after the last count. A keeper's edges are those at its last tick. All numbers are integers here.
+-- reading leave, almost a whole tick after the last count; and order 7: frames that never take less than a known time. A keeper's edges are those at its last tick. All numbers are integers here.
 use mathlib.Core.Bool.{Bool, not}
 use Prim.Native.Nat.{ℕ, _+_, _*_}
 use lib.IntN.{ℤ, pos, _+ℤ_, _-ℤ_}
@@ -24,9 +24,11 @@ abbrev pub longestWait : ℕ
 longestWait = 3600000
 
 -- 'A bracket begins at TRAILING less one longest tick; its upper end is unchanged' (order 5), which is 'LEADING + w times the longest tick'. w is
--- the ticks since the request was sent. The lower end may lie below the range.
-unfoldable pub bracket : ℕ → ℕ → Interval → Interval
-bracket claim w reply = interval (reply .lower -ℤ pos (longest claim)) (reply .upper +ℤ pos (w * longest claim))
+-- the ticks since the request was sent. 'A bracket's lower end gains BACK and its upper end loses OUT' (order 7), the flight times of the peer. The
+-- lower end may lie below the range, and it may lie above the upper one: then the bracket is empty.
+unfoldable pub bracket : ℕ → ℕ → ℕ → ℕ → Interval → Interval
+bracket claim w out back reply =
+    interval ((reply .lower -ℤ pos (longest claim)) +ℤ pos back) ((reply .upper +ℤ pos (w * longest claim)) -ℤ pos out)
 
 -- 'If the bracket and the keeper's own edges share no moment'
 unfoldable pub conflicting : Interval → Interval → Bool
@@ -41,6 +43,7 @@ narrowed b edges = interval (largerOf (b .lower) (edges .lower)) (smallerOf (b .
 unfoldable pub outward : ℕ → ℕ → ℤ
 outward claim w = pos ((w + 1) * longest claim)
 
+-- The mm adoption goes by the reply's own edges: 'The mm adoption is unchanged' (order 7).
 -- 'rule mm: if LEADING - TRAILING + 2 times w times the longest tick is at most UPPER - LOWER', where the span is that of the ticks (`outward`)
 unfoldable pub noWider : ℤ → Interval → Interval → Bool
 noWider span reply edges = leZ ((reply .upper -ℤ reply .lower) +ℤ (span +ℤ span)) (edges .upper -ℤ edges .lower)

@@ -1,4 +1,4 @@
--- What a reply comes to: document 01, 'Reply'; order 5 of document 02 is in the bracket and the span that are handed in. One definition, by
+-- What a reply comes to: document 01, 'Reply'; orders 5 and 7 of document 02 are in the bracket and the span that are handed in. One definition, by
 -- which the causes of a refusal, what an accepted reply does, the log and courses go.
 use mathlib.Core.Bool.{Bool, true, false, not, _&&_}
 use Prim.Native.Nat.{ℕ, _+_}
@@ -25,7 +25,8 @@ judgedBy Mm b span reply edges =
     choose (noWider span reply edges) (λ _. verdict Taken (adopted span reply)) (λ _. verdict Kept edges)
 
 -- The verdict on a reply, from the rule, the reply's bracket, the span that its edges are moved outward by, its edges, and the keeper's. If the
--- bracket and the keeper's edges share no moment it is a conflict, whatever the rule, and 'the edges stay'.
+-- bracket and the keeper's edges share no moment it is a conflict, whatever the rule, and 'the edges stay'; an empty bracket shares none with any
+-- edges, so 'a bracket left empty is a conflict' (order 7).
 unfoldable pub judged : Rule → Interval → ℤ → Interval → Interval → Verdict
 judged rule b span reply edges =
     choose (conflicting b edges) (λ _. verdict Conflict edges) (λ _. judgedBy rule b span reply edges)

@@ -24,14 +24,15 @@ pub fn widen(claim: u16, ticks: u32, edges: Interval) -> Bounds
 }
 
 // The bracket of a reply: its leading edge gains the wait, and its trailing edge goes back by the tick that may have begun since the last count.
-pub fn bracket_of(claim: u16, w: u32, reply: Interval) -> Interval
+// What the two frames took at the least, out to the peer and back, narrows it.
+pub fn bracket_of(claim: u16, w: u32, out: u32, back: u32, reply: Interval) -> Interval
     requires { ⌜ w ≤ longestWait ⌝ }
     requires { ⌜ edgesWithin reply ≡ true ⌝ }
-    ensures { λ r. ⌜ r ≡ bracket claim w reply ⌝ }
+    ensures { λ r. ⌜ r ≡ bracket claim w out back reply ⌝ }
 {
     Interval {
-        lower: reply.lower - longest_span(1, claim),
-        upper: reply.upper + longest_span(w, claim),
+        lower: (reply.lower - longest_span(1, claim)) + (back as i64),
+        upper: (reply.upper + longest_span(w, claim)) - (out as i64),
     }
 }
 

@@ -1,2 +1,3 @@
 -- What the contract of `answer_lines` cites.
 pub mod Serving
+pub mod PutBack

@@ -1,4 +1,5 @@
 // The answers to the lines of a buffer, without input or output.
+use crate::put_back::put_back;
 use command::Reading;
 use keeper::Answer;
 use keeper::Keeper;
@@ -40,8 +41,8 @@ pub fn answer_lines(keeper: Keeper, bytes: &[u8], from: usize, out: &mut [u8]) -
         match reading {
             Reading::Accepted(c) => {
                 let outcome = apply_command(now, started, c);
-                now = outcome.keeper;
                 answer = outcome.answer;
+                now = put_back(now, answer, outcome.keeper);
             }
             Reading::NoShape => {}
             Reading::OutsideLimits => {

@@ -114,12 +114,16 @@ pub record Shape : Type 0 where
   pub kinds : List Kind
   pub form : Values kinds → Form
 
--- '(LOWER UPPER)' and '(DATE DATE)' at the end of a line, and a last numeral
+-- '(LOWER UPPER)', '(DATE DATE)' and '(OUT BACK)' at the end of a line, and a last numeral. OUT and BACK are no edges: 'a '-' elsewhere breaks the
+-- shape'.
 abbrev pub lastEdges : List Kind
 lastEdges = text " (" ∷ edge ∷ text " " ∷ edge ∷ text "))" ∷ []
 
 abbrev pub lastDates : List Kind
 lastDates = text " (" ∷ date ∷ text " " ∷ date ∷ text "))" ∷ []
+
+abbrev pub lastTimes : List Kind
+lastTimes = text " (" ∷ number ∷ text " " ∷ number ∷ text "))" ∷ []
 
 abbrev pub lastNumber : List Kind
 lastNumber = number ∷ text ")" ∷ []
@@ -178,6 +182,10 @@ abbrev pub windowShape : Shape
 windowShape =
     record { named = W.Window; word = "(window "; kinds = number ∷ lastDates; form = λ v. F.window (v .0) (v .1 .0) (v .1 .1 .0) }
 
+abbrev pub flightShape : Shape
+flightShape =
+    record { named = W.Flight; word = "(flight "; kinds = number ∷ lastTimes; form = λ v. F.flight (v .0) (v .1 .0) (v .1 .1 .0) }
+
 -- The form of what was read, if it was.
 abbrev pub formed : {A : Type 0} → (A → Form) → Option A → Option Form
 formed f none = none
@@ -198,4 +206,5 @@ restOf (W.Edged w) line at = shapedFrom (edgedShape w) line at
 restOf (W.Numbered w) line at = shapedFrom (numberedShape w) line at
 restOf (W.Bare w) line at = shapedFrom (bareShape w) line at
 restOf W.Window line at = shapedFrom windowShape line at
+restOf W.Flight line at = shapedFrom flightShape line at
 restOf W.Unknown line at = NoShape

@@ -8,14 +8,17 @@ use crate::parts::Edges;
 use crate::parts::End;
 use crate::parts::LastNumber;
 use crate::parts::RuleAt;
+use crate::parts::Times;
 use crate::parts::end_at;
 use crate::parts::last_dates;
 use crate::parts::last_edges;
 use crate::parts::last_number;
+use crate::parts::last_times;
 use crate::parts::rule_at;
 use command::Command;
 use command::Reading;
 use command::accept::accept_drop;
+use command::accept::accept_flight;
 use command::accept::accept_pass;
 use command::accept::accept_reply;
 use command::accept::accept_request;
@@ -26,7 +29,7 @@ use numeral::read::read_number;
 use text::words::Word;
 use text::words::word_at;
 ghost use mathlib.Core.Path.{_≡_};
-ghost use Rattle.shapes.specs.Shapes.{shapedFrom, startShape, replyShape, edgedShape, numberedShape, bareShape, windowShape};
+ghost use Rattle.shapes.specs.Shapes.{shapedFrom, startShape, replyShape, edgedShape, numberedShape, bareShape, windowShape, flightShape};
 
 fn start_form(line: &[u8], at: usize) -> Reading
     ensures { λ r. ⌜ r ≡ shapedFrom startShape (now (line .entry)) at ⌝ }
@@ -110,4 +113,16 @@ pub fn window_form(line: &[u8], at: usize) -> Reading
         return Reading::NoShape;
     };
     accept_window(slot, start, end)
+}
+
+pub fn flight_form(line: &[u8], at: usize) -> Reading
+    ensures { λ r. ⌜ r ≡ shapedFrom flightShape (now (line .entry)) at ⌝ }
+{
+    let Number::Of(peer, at) = read_number(line, at) else {
+        return Reading::NoShape;
+    };
+    let Times::Of(out, back) = last_times(line, at) else {
+        return Reading::NoShape;
+    };
+    accept_flight(peer, out, back)
 }

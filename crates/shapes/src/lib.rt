@@ -1,6 +1,7 @@
-// The words that begin a command line, and the parts that follow each: document 01, 'Line forms', and document 02, order 3.
+// The words that begin a command line, and the parts that follow each: document 01, 'Line forms', and document 02, orders 3 and 7.
 use crate::forms::bare_form;
 use crate::forms::edged_form;
+use crate::forms::flight_form;
 use crate::forms::numbered_form;
 use crate::forms::window_form;
 use command::Reading;
@@ -36,6 +37,7 @@ pub enum FormWord {
     Numbered(Numbered),
     Bare(Bare),
     Window,
+    Flight,
     Unknown,
 }
 
@@ -48,6 +50,7 @@ pub fn parts_from(line: &[u8], at: usize, word: FormWord) -> Reading
         FormWord::Numbered(form) => numbered_form(line, at, form),
         FormWord::Bare(form) => bare_form(line, at, form),
         FormWord::Window => window_form(line, at),
+        FormWord::Flight => flight_form(line, at),
         FormWord::Unknown => Reading::NoShape,
     }
 }

@@ -11,8 +11,8 @@ use rules::Rule;
 use text::words::Word;
 use text::words::word_at;
 ghost use mathlib.Core.Path.{_≡_};
-ghost use Rattle.shapes.specs.Parts.{edgesRead, datesRead, numberRead};
-ghost use Rattle.shapes.specs.Shapes.{ruleAt, endAt, readParts, lastEdges, lastDates, lastNumber};
+ghost use Rattle.shapes.specs.Parts.{edgesRead, datesRead, timesRead, numberRead};
+ghost use Rattle.shapes.specs.Shapes.{ruleAt, endAt, readParts, lastEdges, lastDates, lastTimes, lastNumber};
 
 // The rule whose word stands at a place with the place after it, or none.
 pub enum RuleAt {
@@ -35,6 +35,12 @@ pub enum Edges {
 // The two dates that end a line, or that it does not end so.
 pub enum Dates {
     Of(Date, Date),
+    Absent,
+}
+
+// The two numerals that end a line as a pair, or that it does not end so.
+pub enum Times {
+    Of(u64, u64),
     Absent,
 }
 
@@ -134,6 +140,31 @@ pub fn last_dates(line: &[u8], at: usize) -> Dates
         return Dates::Absent;
     };
     Dates::Of(start, end)
+}
+
+// ' (OUT BACK))' and no byte after it
+pub fn last_times(line: &[u8], at: usize) -> Times
+    ensures { λ r. ⌜ timesRead r ≡ readParts lastTimes (now (line .entry)) at ⌝ }
+{
+    let Word::After(first) = word_at(line, at, b" (") else {
+        return Times::Absent;
+    };
+    let Number::Of(out, next) = read_number(line, first) else {
+        return Times::Absent;
+    };
+    let Word::After(second) = word_at(line, next, b" ") else {
+        return Times::Absent;
+    };
+    let Number::Of(back, next) = read_number(line, second) else {
+        return Times::Absent;
+    };
+    let Word::After(last) = word_at(line, next, b"))") else {
+        return Times::Absent;
+    };
+    let End::Here = end_at(line, last) else {
+        return Times::Absent;
+    };
+    Times::Of(out, back)
 }
 
 // 'N)' and no byte after it

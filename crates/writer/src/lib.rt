@@ -4,6 +4,7 @@ use command::Reading;
 use form_lines::Written;
 use form_lines::refuse;
 use form_lines::write_drop;
+use form_lines::write_flight;
 use form_lines::write_pass;
 use form_lines::write_read;
 use form_lines::write_reply;
@@ -34,6 +35,11 @@ pub fn write_command(out: &mut [u8], command: Command) -> Written
         Command::Read => write_read(out),
         Command::Waiting => write_waiting(out),
         Command::Window { slot, start, end } => write_window(out, slot as u64, start, end),
+        Command::Flight {
+            peer,
+            out: out_time,
+            back,
+        } => write_flight(out, peer as u64, out_time as u64, back as u64),
     }
 }
 

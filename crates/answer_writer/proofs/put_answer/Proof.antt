@@ -57,6 +57,12 @@ heater-line-requires c κs = search needs
 enum-known-answer-8 : tie.Need-enum-known-answer-8
 enum-known-answer-8 c = search needs
 
+flight-line-requires : tie.Need-flight-line-requires
+flight-line-requires c κs = search needs
+
+enum-known-answer-9 : tie.Need-enum-known-answer-9
+enum-known-answer-9 c = search needs
+
 put-refusal-requires : tie.Need-put-refusal-requires
 put-refusal-requires c κs = search needs
 
@@ -119,7 +125,13 @@ same-length-9 : tie.Need-same-length-9
 same-length-9 c = search needs
 
 returns-9 : tie.Need-returns-9
-returns-9 c = by-line (c .before .before .before .before .before .answer8 .given .1) (c .before .before .put-refusal .ensures)
+returns-9 c = by-line (c .before .before .before .before .before .answer8 .given .1) (c .before .before .flight-line .ensures)
+
+same-length-10 : tie.Need-same-length-10
+same-length-10 c = search needs
+
+returns-10 : tie.Need-returns-10
+returns-10 c = by-line (c .before .before .before .before .before .answer9 .given .1) (c .before .before .put-refusal .ensures)
 
 pub put-answer-spec : {M : Type 1} → statement M
 put-answer-spec =
@@ -142,6 +154,8 @@ put-answer-spec =
     enum-known-answer-7
     heater-line-requires
     enum-known-answer-8
+    flight-line-requires
+    enum-known-answer-9
     put-refusal-requires
     same-length
     returns
@@ -160,4 +174,6 @@ put-answer-spec =
     same-length-8
     returns-8
     same-length-9
-    returns-9)
+    returns-9
+    same-length-10
+    returns-10)

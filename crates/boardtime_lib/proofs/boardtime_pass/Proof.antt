@@ -57,6 +57,11 @@ store-passed-requires c κs = search needs
 same-length-4 : tie.Need-same-length-4
 same-length-4 c = search needs
 
+-- the keeper that was loaded has places for sixteen peers
+places : (c : tie.After-load)
+    → (length (c .load .result .tags) ≡ 16) × (length (c .load .result .«sent_at») ≡ 16) × (length (c .load .result .out) ≡ 16) × (length (c .load .result .back) ≡ 16)
+places c = (search needs, search needs, search needs, search needs)
+
 returns-4 : tie.Need-returns-4
 returns-4 c =
     let image = c .before .before .before .before .before .before .before .before .before .before .before .before .before .before .before .before .args .image .now in
@@ -64,8 +69,10 @@ returns-4 c =
     let loaded : c .before .before .before .before .before .before .before .before .load .result ≡ keeperIn image = c .before .before .before .before .before .before .before .before .load .ensures in
     pass-moved _ whole loaded (c .before .before .before .before .before .before .before .pass .ensures) (sym (c .before .before .before .before .before .if3 .left))
     (pass-kept image whole (all-below 256 image (λ i h. omega (arith, c .before .before .before .before .before .before .before .before .before .before .before .before .before .before .before .slice-known .given i)))
-    (subst (λ (k : Keeper). length (k .tags) ≡ 16) loaded (search needs))
-    (subst (λ (k : Keeper). length (k .«sent_at») ≡ 16) loaded (search needs))
+    (subst (λ (k : Keeper). length (k .tags) ≡ 16) loaded (places (c .before .before .before .before .before .before .before .before) .0))
+    (subst (λ (k : Keeper). length (k .«sent_at») ≡ 16) loaded (places (c .before .before .before .before .before .before .before .before) .1))
+    (subst (λ (k : Keeper). length (k .out) ≡ 16) loaded (places (c .before .before .before .before .before .before .before .before) .2))
+    (subst (λ (k : Keeper). length (k .back) ≡ 16) loaded (places (c .before .before .before .before .before .before .before .before) .3))
     loaded (c .before .before .before .before .before .before .before .pass .ensures) (c .before .before .before .before .before .if3 .left) (c .before .before .store-passed .ensures))
 
 pub boardtime-pass-spec : {M : Type 1} → statement M

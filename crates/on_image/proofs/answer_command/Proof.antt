@@ -22,8 +22,9 @@ load-requires : tie.Need-load-requires
 load-requires c κs = search needs
 
 -- the keeper that was loaded has places for sixteen peers
-places : (c : tie.After-load) → (length (c .load .result .tags) ≡ 16) × (length (c .load .result .«sent_at») ≡ 16)
-places c = (search needs, search needs)
+places : (c : tie.After-load)
+    → (length (c .load .result .tags) ≡ 16) × (length (c .load .result .«sent_at») ≡ 16) × (length (c .load .result .out) ≡ 16) × (length (c .load .result .back) ≡ 16)
+places c = (search needs, search needs, search needs, search needs)
 
 counts-as-started-requires : tie.Need-counts-as-started-requires
 counts-as-started-requires c κs = search needs
@@ -75,6 +76,8 @@ returns c =
           ∙ command-stored image (start .pre .0) (all-below 256 image (λ i h. omega (arith, c .before .before .before .before .before .before .before .before .before .before .before .before .before .before .before .before .slice-known .given i)))
           (subst (λ (k : Keeper). length (k .tags) ≡ 16) loaded (places (c .before .before .before .before .before .before .before .before .before .before .before .before .before) .0))
           (subst (λ (k : Keeper). length (k .«sent_at») ≡ 16) loaded (places (c .before .before .before .before .before .before .before .before .before .before .before .before .before) .1))
+          (subst (λ (k : Keeper). length (k .out) ≡ 16) loaded (places (c .before .before .before .before .before .before .before .before .before .before .before .before .before) .2))
+          (subst (λ (k : Keeper). length (k .back) ≡ 16) loaded (places (c .before .before .before .before .before .before .before .before .before .before .before .before .before) .3))
           command;
     }
 

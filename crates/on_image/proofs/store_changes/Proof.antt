@@ -42,6 +42,12 @@ enum-told-4 c = search needs
 enum-told-5 : tie.Need-enum-told-5
 enum-told-5 c = search needs
 
+enum-known-answer-4 : tie.Need-enum-known-answer-4
+enum-known-answer-4 c = search needs
+
+store-flight-requires : tie.Need-store-flight-requires
+store-flight-requires c κs = search needs
+
 enum-told-6 : tie.Need-enum-told-6
 enum-told-6 c = search needs
 
@@ -84,8 +90,14 @@ returns-7 c = rw (c .enum-told4 .given .1)
 returns-8 : tie.Need-returns-8
 returns-8 c = rw (c .enum-told5 .given .1)
 
+same-length-6 : tie.Need-same-length-6
+same-length-6 c = search needs
+
 returns-9 : tie.Need-returns-9
-returns-9 c = rw (c .enum-told6 .given .1)
+returns-9 c = rw (c .before .before .before .before .before .before .before .before .before .answer4 .given .1) (c .before .before .store-flight .ensures)
+
+returns-10 : tie.Need-returns-10
+returns-10 c = rw (c .enum-told6 .given .1)
 
 pub store-changes-spec : {M : Type 1} → statement M
 store-changes-spec =
@@ -104,6 +116,8 @@ store-changes-spec =
     enum-told-3
     enum-told-4
     enum-told-5
+    enum-known-answer-4
+    store-flight-requires
     enum-told-6
     same-length
     returns
@@ -118,4 +132,6 @@ store-changes-spec =
     returns-6
     returns-7
     returns-8
-    returns-9)
+    same-length-6
+    returns-9
+    returns-10)

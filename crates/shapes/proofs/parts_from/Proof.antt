@@ -31,6 +31,12 @@ window-form-requires c κs = search needs
 enum-told-2 : tie.Need-enum-told-2
 enum-told-2 c = search needs
 
+flight-form-requires : tie.Need-flight-form-requires
+flight-form-requires c κs = search needs
+
+enum-told-3 : tie.Need-enum-told-3
+enum-told-3 c = search needs
+
 returns : tie.Need-returns
 unfolding restOf
 returns c = rw (c .before .before .word .given .1) (c .edged-form .ensures)
@@ -49,7 +55,11 @@ returns-4 c = rw (c .before .enum-told .given .1) (c .window-form .ensures)
 
 returns-5 : tie.Need-returns-5
 unfolding restOf
-returns-5 c = rw (c .enum-told2 .given .1)
+returns-5 c = rw (c .before .enum-told2 .given .1) (c .flight-form .ensures)
+
+returns-6 : tie.Need-returns-6
+unfolding restOf
+returns-6 c = rw (c .enum-told3 .given .1)
 
 pub parts-from-spec : {M : Type 1} → statement M
 parts-from-spec =
@@ -64,8 +74,11 @@ parts-from-spec =
     enum-told
     window-form-requires
     enum-told-2
+    flight-form-requires
+    enum-told-3
     returns
     returns-2
     returns-3
     returns-4
-    returns-5)
+    returns-5
+    returns-6)

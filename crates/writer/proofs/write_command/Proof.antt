@@ -76,6 +76,21 @@ cast-write-window c = search needs
 write-window-requires : tie.Need-write-window-requires
 write-window-requires c κs = search needs
 
+enum-known-command-7 : tie.Need-enum-known-command-7
+enum-known-command-7 c = search needs
+
+cast-write-flight : tie.Need-cast-write-flight
+cast-write-flight c = search needs
+
+cast-write-flight-2 : tie.Need-cast-write-flight-2
+cast-write-flight-2 c = search needs
+
+cast-write-flight-3 : tie.Need-cast-write-flight-3
+cast-write-flight-3 c = search needs
+
+write-flight-requires : tie.Need-write-flight-requires
+write-flight-requires c κs = search needs
+
 same-length : tie.Need-same-length
 same-length c = search needs
 
@@ -124,6 +139,12 @@ same-length-8 c = search needs
 returns-8 : tie.Need-returns-8
 returns-8 c = command-written _ (c .before .before .before .before .before .command6 .given .1) (c .before .before .write-window .ensures)
 
+same-length-9 : tie.Need-same-length-9
+same-length-9 c = search needs
+
+returns-9 : tie.Need-returns-9
+returns-9 c = command-written _ (c .before .before .before .before .before .command7 .given .1) (c .before .before .write-flight .ensures)
+
 pub write-command-spec : {M : Type 1} → statement M
 write-command-spec =
     tie.close
@@ -152,6 +173,11 @@ write-command-spec =
     enum-known-command-6
     cast-write-window
     write-window-requires
+    enum-known-command-7
+    cast-write-flight
+    cast-write-flight-2
+    cast-write-flight-3
+    write-flight-requires
     same-length
     returns
     same-length-2
@@ -167,4 +193,6 @@ write-command-spec =
     same-length-7
     returns-7
     same-length-8
-    returns-8)
+    returns-8
+    same-length-9
+    returns-9)

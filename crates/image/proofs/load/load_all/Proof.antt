@@ -47,30 +47,38 @@ load-4-requires-2 c κs = search needs
 load-2-requires-2 : tie.Need-load-2-requires-2
 load-2-requires-2 c κs = search needs
 
-load-tags-requires : tie.Need-load-tags-requires
-load-tags-requires c κs = search needs
+load-16-4-requires : tie.Need-load-16-4-requires
+load-16-4-requires c κs = search needs
 
 load-counts-requires : tie.Need-load-counts-requires
 load-counts-requires c κs = search needs
 
+load-16-4-requires-2 : tie.Need-load-16-4-requires-2
+load-16-4-requires-2 c κs = search needs
+
+load-16-4-requires-3 : tie.Need-load-16-4-requires-3
+load-16-4-requires-3 c κs = search needs
+
 returns : tie.Need-returns
 unfolding keeperAt
 returns c =
-    let lower : _ = c .before .before .before .before .before .before .before .before .signed-of .ensures ∙ ap (toZ w64) (c .before .before .before .before .before .before .before .before .before .load-8 .ensures) in
-    let upper : _ = c .before .before .before .before .before .before .signed-of2 .ensures ∙ ap (toZ w64) (c .before .before .before .before .before .before .before .load-82 .ensures) in
+    let lower : _ = c .before .before .before .before .before .before .before .before .before .before .signed-of .ensures ∙ ap (toZ w64) (c .before .before .before .before .before .before .before .before .before .before .before .load-8 .ensures) in
+    let upper : _ = c .before .before .before .before .before .before .before .before .signed-of2 .ensures ∙ ap (toZ w64) (c .before .before .before .before .before .before .before .before .before .load-82 .ensures) in
     rw (
-      got (c .before .before .before .before .before .before .before .before .signed-of .result) (search needs),
-      got (c .before .before .before .before .before .before .signed-of2 .result) (search needs),
+      got (c .before .before .before .before .before .before .before .before .before .before .signed-of .result) (search needs),
+      got (c .before .before .before .before .before .before .before .before .signed-of2 .result) (search needs),
       lower,
       upper,
-      c .before .before .before .before .before .before .before .before .before .before .before .rule-of .ensures,
-      c .before .before .before .before .before .before .before .before .before .before .load-2 .ensures,
-      c .before .before .before .before .before .load-83 .ensures,
-      c .before .before .before .before .load-4 .ensures,
-      c .before .before .before .load-42 .ensures,
-      c .before .before .load-22 .ensures,
-      c .before .load-tags .ensures,
-      c .load-counts .ensures,
+      c .before .before .before .before .before .before .before .before .before .before .before .before .before .rule-of .ensures,
+      c .before .before .before .before .before .before .before .before .before .before .before .before .load-2 .ensures,
+      c .before .before .before .before .before .before .before .load-83 .ensures,
+      c .before .before .before .before .before .before .load-4 .ensures,
+      c .before .before .before .before .before .load-42 .ensures,
+      c .before .before .before .before .load-22 .ensures,
+      c .before .before .before .load-16-4 .ensures,
+      c .before .before .load-counts .ensures,
+      c .before .load-16-42 .ensures,
+      c .load-16-43 .ensures,
     )
 
 pub load-all-spec : {M : Type 1} → statement M
@@ -90,6 +98,8 @@ load-all-spec =
     load-4-requires
     load-4-requires-2
     load-2-requires-2
-    load-tags-requires
+    load-16-4-requires
     load-counts-requires
+    load-16-4-requires-2
+    load-16-4-requires-3
     returns)

@@ -11,8 +11,8 @@ use borrow.Author.Needs.{needs}
 use Rattle.image.proofs.store.store_peers.Statement.{statement}
 use Rattle.image.proofs.store.store_peers.Tie as tie
 
-store-tags-requires : tie.Need-store-tags-requires
-store-tags-requires c κs = search needs
+store-16-4-requires : tie.Need-store-16-4-requires
+store-16-4-requires c κs = search needs
 
 store-counts-requires : tie.Need-store-counts-requires
 store-counts-requires c κs = search needs
@@ -28,10 +28,10 @@ returns c =
     let sixteen : length (k .tags) ≡ 16 = search needs in
     let place : 104 ≡ 40 + length (eachLowestFirst 4 (k .tags)) = omega (arith, length-each 4 (k .tags), sixteen) in
     c .before .before .store-counts .ensures
-    ∙ ap (λ (y : List ℕ). stored y 104 (eachLowestFirst 8 (k .«sent_at»))) (c .before .before .before .before .before .before .before .before .before .store-tags .ensures)
+    ∙ ap (λ (y : List ℕ). stored y 104 (eachLowestFirst 8 (k .«sent_at»))) (c .before .before .before .before .before .before .before .before .before .store-16-4 .ensures)
     ∙ ap (λ (n : ℕ). stored (stored l 40 (eachLowestFirst 4 (k .tags))) n (eachLowestFirst 8 (k .«sent_at»))) place
     ∙ stored-more l 40 (eachLowestFirst 4 (k .tags)) (eachLowestFirst 8 (k .«sent_at»))
 
 pub store-peers-spec : {M : Type 1} → statement M
 store-peers-spec =
-    tie.close (tie.spec store-tags-requires store-counts-requires same-length returns)
+    tie.close (tie.spec store-16-4-requires store-counts-requires same-length returns)

@@ -71,14 +71,31 @@ peers-kept-requires c κs = search needs
 returns-5 : tie.Need-returns-5
 unfolding countsAsStarted
 returns-5 c =
-    let x = c .before .before .before .before .before .before .before .before .before .before .before .before .before .before .before .args in
+    let x = c .before .before .before .before .before .before .before .before .before .before .before .before .before .before .before .before .args in
     rw (
-      sym (c .before .before .before .before .before .before .before .before .before .before .before .before .numbers-kept .ensures) ∙ not-false _ (c .before .before .before .before .before .before .before .before .before .before .before .if2 .left),
-      ← c .before .before .before .before .before .before .before .before .before .before .count-of .ensures,
-      le-leb _ _ (c .before .before .before .before .before .before .before .if3 .left),
-      sym (c .before .before .before .before .before .before .bit-of .ensures) ∙ c .before .before .before .before .before .if4 .left,
-      ← c .peers-kept .ensures,
-      not-false (x .self .started) (c .before .before .before .before .before .before .before .before .before .before .before .before .before .if1 .left),
+      sym (c .before .before .before .before .before .before .before .before .before .before .before .before .before .numbers-kept .ensures) ∙ not-false _ (c .before .before .before .before .before .before .before .before .before .before .before .before .if2 .left),
+      ← c .before .before .before .before .before .before .before .before .before .before .before .count-of .ensures,
+      le-leb _ _ (c .before .before .before .before .before .before .before .before .if3 .left),
+      sym (c .before .before .before .before .before .before .before .bit-of .ensures) ∙ c .before .before .before .before .before .before .if4 .left,
+      sym (c .before .peers-kept .ensures) ∙ not-true _ (c .if5 .taken),
+      not-false (x .self .started) (c .before .before .before .before .before .before .before .before .before .before .before .before .before .before .if1 .left),
+    )
+
+flights-kept-requires : tie.Need-flights-kept-requires
+flights-kept-requires c κs = search needs
+
+returns-6 : tie.Need-returns-6
+unfolding countsAsStarted
+returns-6 c =
+    let x = c .before .before .before .before .before .before .before .before .before .before .before .before .before .before .before .before .before .before .before .before .before .args in
+    rw (
+      sym (c .before .before .before .before .before .before .before .before .before .before .before .before .before .before .before .before .before .before .numbers-kept .ensures) ∙ not-false _ (c .before .before .before .before .before .before .before .before .before .before .before .before .before .before .before .before .before .if2 .left),
+      ← c .before .before .before .before .before .before .before .before .before .before .before .before .before .before .before .before .count-of .ensures,
+      le-leb _ _ (c .before .before .before .before .before .before .before .before .before .before .before .before .before .if3 .left),
+      sym (c .before .before .before .before .before .before .before .before .before .before .before .before .bit-of .ensures) ∙ c .before .before .before .before .before .before .before .before .before .before .before .if4 .left,
+      sym (c .before .before .before .before .before .before .peers-kept .ensures) ∙ not-false _ (c .before .before .before .before .before .if5 .left),
+      ← c .flights-kept .ensures,
+      not-false (x .self .started) (c .before .before .before .before .before .before .before .before .before .before .before .before .before .before .before .before .before .before .before .if1 .left),
     )
 
 pub counts-as-started-spec : {M : Type 1} → statement M
@@ -97,4 +114,6 @@ counts-as-started-spec =
     bit-of-requires
     returns-4
     peers-kept-requires
-    returns-5)
+    returns-5
+    flights-kept-requires
+    returns-6)

@@ -54,9 +54,21 @@ cast-w : tie.Need-cast-w
 unfolding stateOf
 cast-w c = omega (arith, found (c .before .before) .soon)
 
+mul-bracket-of : tie.Need-mul-bracket-of
+mul-bracket-of c = search needs
+
+array-read-bracket-of : tie.Need-array-read-bracket-of
+array-read-bracket-of c = omega (arith, found (c .before .before .before .before) .small)
+
+mul-bracket-of-2 : tie.Need-mul-bracket-of-2
+mul-bracket-of-2 c = search needs
+
+array-read-bracket-of-2 : tie.Need-array-read-bracket-of-2
+array-read-bracket-of-2 c = omega (arith, found (c .before .before .before .before) .small)
+
 bracket-of-requires : tie.Need-bracket-of-requires
 unfolding stateOf
-bracket-of-requires c κs = let f = found (c .before .before) in (f .soon, f .within)
+bracket-of-requires c κs = let f = found (c .before .before .before .before) in (f .soon, f .within)
 
 outward-span-requires : tie.Need-outward-span-requires
 outward-span-requires c κs = search needs
@@ -64,13 +76,13 @@ outward-span-requires c κs = search needs
 judge-requires : tie.Need-judge-requires
 unfolding stateOf
 judge-requires c κs =
-    let x = c .before .before .before .before .before .before .args in
-    let f = found (c .before .before .before .before) in
+    let x = c .before .before .before .before .before .before .before .before .args in
+    let f = found (c .before .before .before .before .before .before) in
     let o = c .outward-span in
     rw (got (o .result) (o .ok), o .ensures) (wait-span _ (x .self .claim) (f .soon) (omega arith), (f .within, started-read (x .self) (f .started) .edges))
 
 -- the verdict is that of the definition
-verdict-is : (c : tie.After-judge) → c .judge .result ≡ replyVerdict (stateOf (c .before .before .before .before .before .before .before .args .self)) (c .before .before .before .before .before .before .before .args .peer) (c .before .before .before .before .before .before .before .args .edges)
+verdict-is : (c : tie.After-judge) → c .judge .result ≡ replyVerdict (stateOf (c .before .before .before .before .before .before .before .before .before .args .self)) (c .before .before .before .before .before .before .before .before .before .args .peer) (c .before .before .before .before .before .before .before .before .before .args .edges)
 unfolding replyVerdict replyBracket stateOf
 verdict-is c =
     let o = c .before .outward-span in
@@ -85,23 +97,23 @@ refused-requires-2 c κs = search needs
 returns-2 : tie.Need-returns-2
 unfolding first
 returns-2 c =
-    let x = c .before .before .before .before .before .before .before .before .before .before .args in
-    let past = reply-past (stateOf (x .self)) (x .peer) (x .tag) (x .edges) (sym (c .before .before .before .before .before .before .before .before .before .wait-refusal .ensures) ∙ c .before .before .before .before .before .before .before .before .if1 .left) in
+    let x = c .before .before .before .before .before .before .before .before .before .before .before .before .args in
+    let past = reply-past (stateOf (x .self)) (x .peer) (x .tag) (x .edges) (sym (c .before .before .before .before .before .before .before .before .before .before .before .wait-refusal .ensures) ∙ c .before .before .before .before .before .before .before .before .before .before .if1 .left) in
     let leaves-it = ap leaves (sym (verdict-is (c .before .before .before))) ∙ sym (c .before .before .leaves-the-range .ensures) ∙ c .before .if2 .taken in
     c .refused2 .ensures ∙ sym (apply-refused (x .self) (C.Reply (x .peer) (x .tag) (x .edges)) 5 refl (past ∙ rw leaves-it))
 
 replied-with-requires : tie.Need-replied-with-requires
 replied-with-requires c κs =
-    let x = c .before .before .before .before .before .before .before .before .before .args in
-    let f = found (c .before .before .before .before .before .before .before) in
+    let x = c .before .before .before .before .before .before .before .before .before .before .before .args in
+    let f = found (c .before .before .before .before .before .before .before .before .before) in
     let s = started-read (x .self) (f .started) in
     (f .small, (f .waits, omega (arith, s .count, s .requests)))
 
 returns-3 : tie.Need-returns-3
 unfolding first accepted
 returns-3 c =
-    let x = c .before .before .before .before .before .before .before .before .before .before .args in
-    let past = reply-past (stateOf (x .self)) (x .peer) (x .tag) (x .edges) (sym (c .before .before .before .before .before .before .before .before .before .wait-refusal .ensures) ∙ c .before .before .before .before .before .before .before .before .if1 .left) in
+    let x = c .before .before .before .before .before .before .before .before .before .before .before .before .args in
+    let past = reply-past (stateOf (x .self)) (x .peer) (x .tag) (x .edges) (sym (c .before .before .before .before .before .before .before .before .before .before .before .wait-refusal .ensures) ∙ c .before .before .before .before .before .before .before .before .before .before .if1 .left) in
     let stays = ap leaves (sym (verdict-is (c .before .before .before))) ∙ sym (c .before .before .leaves-the-range .ensures) ∙ c .before .if2 .left in
     c .replied-with .ensures
     ∙ ap (replied (x .self) (x .peer)) (verdict-is (c .before .before .before))
@@ -118,6 +130,10 @@ reply-spec =
     array-read-w
     sub-w
     cast-w
+    mul-bracket-of
+    array-read-bracket-of
+    mul-bracket-of-2
+    array-read-bracket-of-2
     bracket-of-requires
     outward-span-requires
     judge-requires

@@ -51,6 +51,12 @@ enum-known-command-6 c = search needs
 window-requires : tie.Need-window-requires
 window-requires c κs = search needs
 
+enum-known-command-7 : tie.Need-enum-known-command-7
+enum-known-command-7 c = search needs
+
+flight-requires : tie.Need-flight-requires
+flight-requires c κs = search needs
+
 returns : tie.Need-returns
 returns c =
     rw (c .before .before .command .given .1) (c .start .ensures)
@@ -83,6 +89,10 @@ returns-8 : tie.Need-returns-8
 returns-8 c =
     rw (c .before .before .command6 .given .1) (c .window .ensures)
 
+returns-9 : tie.Need-returns-9
+returns-9 c =
+    rw (c .before .before .command7 .given .1) (c .flight .ensures)
+
 pub apply-command-spec : {M : Type 1} → statement M
 apply-command-spec =
     tie.close
@@ -103,6 +113,8 @@ apply-command-spec =
     waiting-requires
     enum-known-command-6
     window-requires
+    enum-known-command-7
+    flight-requires
     returns
     returns-2
     returns-3
@@ -110,4 +122,5 @@ apply-command-spec =
     returns-5
     returns-6
     returns-7
-    returns-8)
+    returns-8
+    returns-9)

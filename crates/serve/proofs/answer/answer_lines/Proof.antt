@@ -22,6 +22,7 @@ use Rattle.line.proofs.ResponseLaws.{listed}
 use Rattle.line.proofs.AnsweredLaws.{refused-same, answered-starts, answered-sized}
 use Rattle.lines.specs.Lines.{lineLength}
 use Rattle.serve.specs.Serving.{Answered}
+use Rattle.serve.proofs.PutBackLaws.{put-back-same}
 use Rattle.serve.proofs.ServingLaws.{Step, none-answered, part-room, line-answered, filled-within, stopped-full, stopped-done}
 use Rattle.serve.proofs.answer.answer_lines.Statement.{statement}
 use Rattle.serve.proofs.answer.answer_lines.Tie as tie
@@ -46,7 +47,7 @@ line-end-requires c κs = search needs
 
 loop-holds : tie.Need-loop-holds Inv-loop μ-loop
 loop-holds c =
-    (refl, omega arith, c .line-end .ensures, none-answered _ _ _, c .before .counts-as-started .ensures, record { mask = search needs; tags = search needs; sent = search needs })
+    (refl, omega arith, c .line-end .ensures, none-answered _ _ _, c .before .counts-as-started .ensures, record { mask = search needs; tags = search needs; sent = search needs; out = search needs; back = search needs })
 
 sub-if1 : tie.Need-sub-if1 Inv-loop μ-loop
 sub-if1 c = omega arith
@@ -68,6 +69,9 @@ enum-known-reading c = search needs
 
 apply-command-requires : tie.Need-apply-command-requires Inv-loop μ-loop
 apply-command-requires c κs = c .before .before .before .before .before .before .before .loop .inv .4
+
+put-back-requires : tie.Need-put-back-requires Inv-loop μ-loop
+put-back-requires c κs = search needs
 
 enum-told : tie.Need-enum-told Inv-loop μ-loop
 enum-told c = search needs
@@ -94,7 +98,7 @@ outcome-is c =
     let by : (r : Reading) → c .before .read-command .result ≡ r → byReading r (before c) ≡ byReading (readingOf (line c)) (before c) =
     λ r e. ap (λ (x : Reading). byReading x (before c)) (sym e ∙ c .before .read-command .ensures) in
     ⊎-elim
-    (λ w. outcome-made (w .5) (w .6) ∙ w .3 .ensures ∙ by _ (w .1 .given .1))
+    (λ w. outcome-made (w .5 ∙ w .4 .ensures ∙ put-back-same _ _ (w .3 .ensures)) (w .6) ∙ w .3 .ensures ∙ by _ (w .1 .given .1))
     (⊎-elim (λ w. outcome-made (w .2) (w .3) ∙ by _ (w .1 .given .1)) (λ w. outcome-made (w .2) (w .3) ∙ by _ (w .1 .given .1)))
     (c .match .came)
 
@@ -200,6 +204,7 @@ answer-lines-spec =
     read-command-requires
     enum-known-reading
     apply-command-requires
+    put-back-requires
     enum-told
     enum-told-2
     number-of-requires

@@ -1,18 +1,18 @@
--- `image::store::store_tags` meets its contract: the numbers before the next one were put.
+-- `image::store::store_16_4` meets its contract: the numbers before the next one were put.
 use Prim.Native.Nat.{_-_}
 use native.Mathlib.Omega.{arith}
 use Rattle.image.proofs.StoreLaws.{Filled, filled-none, filled-more, filled-length, filled-all}
-use Rattle.image.proofs.store.store_tags.Statement.{statement}
-use Rattle.image.proofs.store.store_tags.Tie as tie
+use Rattle.image.proofs.store.store_16_4.Statement.{statement}
+use Rattle.image.proofs.store.store_16_4.Tie as tie
 
 abbrev Inv-loop : tie.InvT-loop
-Inv-loop image₀ at tags p₀ image p = Filled 4 at p tags image₀ image
+Inv-loop image₀ at numbers p₀ image p = Filled 4 at p numbers image₀ image
 
 abbrev μ-loop : tie.MeasureT-loop
-μ-loop image₀ at tags p₀ image p = 16 - p
+μ-loop image₀ at numbers p₀ image p = 16 - p
 
 loop-holds : tie.Need-loop-holds Inv-loop μ-loop
-loop-holds c = filled-none 4 (c .before .before .args .at) (c .before .before .args .tags .now) (c .before .before .args .image .now)
+loop-holds c = filled-none 4 (c .before .before .args .at) (c .before .before .args .numbers .now) (c .before .before .args .image .now)
 
 mul-store-4 : tie.Need-mul-store-4 Inv-loop μ-loop
 mul-store-4 c = omega (arith, c .before .loop-test .taken)
@@ -44,8 +44,8 @@ same-length c = filled-length (c .before .loop .inv)
 returns : tie.Need-returns Inv-loop μ-loop
 returns c = filled-all (c .before .loop .inv) (c .before .before .before .before .pre .1) (c .loop-test .left)
 
-pub store-tags-spec : {M : Type 1} → statement M
-store-tags-spec =
+pub store-16-4-spec : {M : Type 1} → statement M
+store-16-4-spec =
     tie.close
     (tie.spec
     Inv-loop
