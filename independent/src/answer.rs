@@ -93,6 +93,10 @@ fn run(keeper: &mut Keeper, line: &[u8], writer: &mut Writer) -> Result<(), Refu
         Command::Read => write_time(keeper, writer),
         Command::Waiting => write_waiting(keeper, writer),
         Command::Window(window) => write_window(keeper, &window, writer),
+        Command::Flight(flight) => {
+            keeper.set_flight(&flight)?;
+            write_flight(flight.peer, writer);
+        }
     }
     Ok(())
 }
@@ -200,5 +204,12 @@ fn write_window(keeper: &Keeper, window: &Window, writer: &mut Writer) {
         WindowState::Unsure => writer.text(b"(unsure "),
     }
     writer.count(u64::from(window.slot));
+    writer.text(b")\n");
+}
+
+/// `(flight PEER)`
+fn write_flight(peer: u8, writer: &mut Writer) {
+    writer.text(b"(flight ");
+    writer.count(u64::from(peer));
     writer.text(b")\n");
 }

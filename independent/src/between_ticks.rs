@@ -16,15 +16,17 @@ impl Keeper {
         self.interval().widened(0, self.longest_tick())
     }
 
-    /// The bracket of a reply: where the last tick was, by the peer's edges.
-    /// The peer read them at most `wait` ticks before the last tick, and less
-    /// than one tick after it. Either edge may lie outside the range.
+    /// The bracket of a reply from a peer without flight times: where the last
+    /// tick was, by the peer's edges. The peer read them at most `wait` ticks
+    /// before the last tick, and less than one tick after it. Either edge may
+    /// lie outside the range.
     pub(crate) fn bracket(&self, peer: Interval, wait: i64) -> Interval {
         peer.widened(self.longest_tick(), wait * self.longest_tick())
     }
 
     /// What rule mm compares and adopts: the peer's edges, each moved outward
-    /// by one tick more than the wait.
+    /// by one tick more than the wait. "The mm adoption is unchanged" by flight
+    /// times.
     pub(crate) fn moved_outward(&self, peer: Interval, wait: i64) -> Interval {
         let span = (wait + 1) * self.longest_tick();
         peer.widened(span, span)

@@ -5,6 +5,7 @@
 //! values, which all fit in 64 bits.
 
 use crate::command::{Reply, Start};
+use crate::flight::Flight;
 use crate::interval::Interval;
 use crate::keeper::{Keeper, Rule};
 use crate::limits::{MAX_MOMENT, MAX_REQUESTS, MAX_TICKS, MAX_WAIT};
@@ -51,9 +52,7 @@ impl Keeper {
     /// Returns the tag of the new request.
     pub(crate) fn request(&mut self, peer: u8) -> Result<u32, Refusal> {
         self.refuse_own_board(peer)?;
-        if self.waits(peer) {
-            return Err(Refusal::Waiting);
-        }
+        self.refuse_waiting(peer)?;
         if self.requests >= MAX_REQUESTS {
             return Err(Refusal::TagsUsed);
         }
@@ -75,7 +74,7 @@ impl Keeper {
             return Err(Refusal::Late);
         }
         // At most 3600000, so the wait fits in i64 too.
-        let outcome = self.merge(reply.interval, wait as i64)?;
+        let outcome = self.merge(reply, wait as i64)?;
         self.end_request(reply.peer);
         Ok(outcome)
     }
@@ -89,10 +88,22 @@ impl Keeper {
         Ok(())
     }
 
+    /// Sets both flight times of a peer: "It is refused with 6 while that peer
+    /// has a request waiting, after 4."
+    pub(crate) fn set_flight(&mut self, flight: &Flight) -> Result<(), Refusal> {
+        self.refuse_own_board(flight.peer)?;
+        self.refuse_waiting(flight.peer)?;
+        self.out_times[usize::from(flight.peer)] = flight.out_time;
+        self.back_times[usize::from(flight.peer)] = flight.back_time;
+        Ok(())
+    }
+
     /// Brings the peer's interval into the keeper's own. `wait` is the number
     /// of ticks since the request was sent.
-    fn merge(&mut self, peer: Interval, wait: i64) -> Result<Outcome, Refusal> {
-        let Some(shared) = self.interval().shared_with(self.bracket(peer, wait)) else {
+    fn merge(&mut self, reply: &Reply, wait: i64) -> Result<Outcome, Refusal> {
+        let bracket = self.shifted(self.bracket(reply.interval, wait), reply.peer);
+        // "A bracket left empty is a conflict": it shares no moment.
+        let Some(shared) = self.interval().shared_with(bracket) else {
             self.conflicts += 1;
             return Ok(Outcome::Conflict);
         };
@@ -101,7 +112,7 @@ impl Keeper {
                 self.set_interval(shared);
                 Ok(Outcome::Taken)
             }
-            Rule::Mm => self.adopt(self.moved_outward(peer, wait)),
+            Rule::Mm => self.adopt(self.moved_outward(reply.interval, wait)),
         }
     }
 
@@ -126,6 +137,15 @@ impl Keeper {
         }
     }
 
+    fn refuse_waiting(&self, peer: u8) -> Result<(), Refusal> {
+        if self.waits(peer) {
+            Err(Refusal::Waiting)
+        } else {
+            Ok(())
+        }
+    }
+
+    /// The flight times belong to the peer and stay.
     fn end_request(&mut self, peer: u8) {
         self.waiting &= !(1 << peer);
         self.tags[usize::from(peer)] = 0;

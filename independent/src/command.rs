@@ -6,9 +6,10 @@
 //! tests the numbers and, after them, the dates.
 
 use crate::date::Date;
+use crate::flight::Flight;
 use crate::interval::Interval;
 use crate::keeper::Rule;
-use crate::limits::{BOARDS, MAX_CLAIM, MAX_LINE, MAX_PASS, MAX_REQUESTS, SLOTS};
+use crate::limits::{BOARDS, MAX_CLAIM, MAX_FLIGHT, MAX_LINE, MAX_PASS, MAX_REQUESTS, SLOTS};
 use crate::reader::Reader;
 use crate::refusal::Refusal;
 use crate::window::Window;
@@ -23,6 +24,7 @@ pub enum Command {
     Read,
     Waiting,
     Window(Window),
+    Flight(Flight),
 }
 
 pub struct Start {
@@ -58,6 +60,8 @@ impl Command {
             read_start(reader)
         } else if reader.take(b"(window ") {
             read_window(reader)
+        } else if reader.take(b"(flight ") {
+            read_flight(reader)
         } else if line == b"(read)" {
             Ok(Command::Read)
         } else if line == b"(waiting)" {
@@ -123,6 +127,14 @@ impl Command {
         }
         Ok(Command::Window(Window { slot, start, end }))
     }
+
+    pub fn flight(peer: u64, out_time: u64, back_time: u64) -> Result<Command, Refusal> {
+        Ok(Command::Flight(Flight {
+            peer: board_number(peer)?,
+            out_time: flight_time(out_time)?,
+            back_time: flight_time(back_time)?,
+        }))
+    }
 }
 
 /// `TICKS)`
@@ -173,8 +185,23 @@ fn read_window(mut reader: Reader) -> Result<Command, Refusal> {
     Command::window(slot, start, end)
 }
 
+/// `PEER (OUT BACK))`: the times are no edges, so neither takes a '-'.
+fn read_flight(mut reader: Reader) -> Result<Command, Refusal> {
+    let peer = reader.count()?;
+    reader.expect(b" (")?;
+    let out_time = reader.count()?;
+    reader.expect(b" ")?;
+    let back_time = reader.count()?;
+    reader.finish(b"))")?;
+    Command::flight(peer, out_time, back_time)
+}
+
 fn board_number(value: u64) -> Result<u8, Refusal> {
     Ok(at_most(value, BOARDS as u64 - 1)? as u8)
+}
+
+fn flight_time(value: u64) -> Result<u32, Refusal> {
+    Ok(at_most(value, u64::from(MAX_FLIGHT))? as u32)
 }
 
 /// Passes on a value up to `limit`, which may then be cast to a type that

@@ -1,8 +1,8 @@
-//! The keeper as an image of 232 bytes, and the calls on an image.
+//! The keeper as an image of 360 bytes, and the calls on an image.
 //!
 //! | Bytes | Field |
 //! |---|---|
-//! | 0 | version, 1 |
+//! | 0 | version, 2 |
 //! | 1 | started, 0 or 1 |
 //! | 2 | board |
 //! | 3 | rule, 0 for im and 1 for mm |
@@ -15,6 +15,8 @@
 //! | 36..40 | conflicts |
 //! | 40..104 | the tags, four bytes for each peer |
 //! | 104..232 | the tick counts, eight bytes for each peer |
+//! | 232..296 | the out times, four bytes for each peer |
+//! | 296..360 | the back times, four bytes for each peer |
 //!
 //! Every number is little-endian.
 
@@ -22,14 +24,16 @@ use crate::answer::{answer_line, pass, Answered};
 use crate::keeper::{Keeper, Rule};
 use crate::limits::BOARDS;
 
-pub const IMAGE_LENGTH: usize = 232;
+pub const IMAGE_LENGTH: usize = 360;
 
 /// The number that a call on an image of another length returns.
 pub const WRONG_LENGTH: u8 = 255;
 
-const VERSION: u8 = 1;
+const VERSION: u8 = 2;
 const TAGS: usize = 40;
 const SENT_AT: usize = 104;
+const OUT_TIMES: usize = 232;
+const BACK_TIMES: usize = 296;
 
 type Image = [u8; IMAGE_LENGTH];
 
@@ -53,6 +57,10 @@ impl Keeper {
         for peer in 0..BOARDS {
             set(image, TAGS + 4 * peer, self.tags[peer].to_le_bytes());
             set(image, SENT_AT + 8 * peer, self.sent_at[peer].to_le_bytes());
+            let out_time = self.out_times[peer].to_le_bytes();
+            set(image, OUT_TIMES + 4 * peer, out_time);
+            let back_time = self.back_times[peer].to_le_bytes();
+            set(image, BACK_TIMES + 4 * peer, back_time);
         }
     }
 
@@ -76,10 +84,14 @@ impl Keeper {
             conflicts: u32::from_le_bytes(get(image, 36)),
             tags: [0; BOARDS],
             sent_at: [0; BOARDS],
+            out_times: [0; BOARDS],
+            back_times: [0; BOARDS],
         };
         for peer in 0..BOARDS {
             keeper.tags[peer] = u32::from_le_bytes(get(image, TAGS + 4 * peer));
             keeper.sent_at[peer] = u64::from_le_bytes(get(image, SENT_AT + 8 * peer));
+            keeper.out_times[peer] = u32::from_le_bytes(get(image, OUT_TIMES + 4 * peer));
+            keeper.back_times[peer] = u32::from_le_bytes(get(image, BACK_TIMES + 4 * peer));
         }
         Some(keeper)
     }

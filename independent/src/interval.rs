@@ -24,12 +24,22 @@ impl Interval {
         }
     }
 
+    /// Moves the lower edge up by `below` and the upper edge down by `above`.
+    /// The result may have its edges out of order: it then holds no moment.
+    pub fn narrowed(self, below: i64, above: i64) -> Interval {
+        Interval {
+            lower: self.lower + below,
+            upper: self.upper - above,
+        }
+    }
+
     pub fn width(self) -> i64 {
         self.upper - self.lower
     }
 
     /// The moments that both intervals hold; `None` if there are none. One is
-    /// enough. The edges of both are in order.
+    /// enough. An interval with its edges out of order shares none: the larger
+    /// lower edge is then above the smaller upper one, whatever the other is.
     pub fn shared_with(self, other: Interval) -> Option<Interval> {
         let shared = Interval {
             lower: self.lower.max(other.lower),

@@ -35,6 +35,10 @@ pub struct Keeper {
     pub tags: [u32; BOARDS],
     /// Tick count at which each waiting request was sent, 0 for the others.
     pub sent_at: [u64; BOARDS],
+    /// Least time that a request takes to each peer, in nanoseconds.
+    pub out_times: [u32; BOARDS],
+    /// Least time that a reply takes back from each peer, in nanoseconds.
+    pub back_times: [u32; BOARDS],
 }
 
 impl Keeper {
@@ -53,6 +57,8 @@ impl Keeper {
             waiting: 0,
             tags: [0; BOARDS],
             sent_at: [0; BOARDS],
+            out_times: [0; BOARDS],
+            back_times: [0; BOARDS],
         }
     }
 
@@ -60,10 +66,13 @@ impl Keeper {
     /// the calls rely on. All fields are open to the caller, so every call
     /// asks again.
     pub fn counts_as_started(&self) -> bool {
-        self.started && self.numbers_are_valid() && self.requests_are_valid()
+        self.started
+            && self.numbers_are_valid()
+            && self.requests_are_valid()
+            && self.flight_times_are_valid()
     }
 
-    /// The numbers that do not belong to a single request. Passing this test
+    /// The numbers that do not belong to a single peer. Passing this test
     /// also makes `board` a valid peer number.
     fn numbers_are_valid(&self) -> bool {
         // In u64 the sum fits whatever the conflict count is.

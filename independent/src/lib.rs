@@ -15,6 +15,7 @@ mod calendar;
 mod calls;
 mod command;
 mod date;
+mod flight;
 mod gregorian;
 mod image;
 mod interval;
@@ -33,6 +34,6 @@ pub use calendar::{date_of, moment_of};
 pub use image::{answer_image, fresh_image, pass_image, IMAGE_LENGTH, WRONG_LENGTH};
 pub use keeper::{Keeper, Rule};
 pub use uplink::{
-    plain, write_drop, write_pass, write_read, write_reply, write_request, write_start,
-    write_waiting, write_window, Written,
+    plain, write_drop, write_flight, write_pass, write_read, write_reply, write_request,
+    write_start, write_waiting, write_window, Written,
 };

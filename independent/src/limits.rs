@@ -22,6 +22,9 @@ pub const BOARDS: usize = 16;
 /// Largest number of requests, and so the largest tag.
 pub const MAX_REQUESTS: u32 = 16_777_215;
 
+/// Largest out time and largest back time of a peer, in nanoseconds.
+pub const MAX_FLIGHT: u32 = 1_000_000_000;
+
 /// Number of heater slots.
 pub const SLOTS: usize = 16;
 

@@ -14,7 +14,7 @@ pub enum Refusal {
     OwnBoard = 4,
     /// An edge would leave the range, or the ticks would pass their limit.
     Overflow = 5,
-    /// A request to a peer that has one waiting.
+    /// A request to a peer that has one waiting, or flight times for one.
     Waiting = 6,
     /// A reply or drop for a peer with none waiting, or another tag.
     NotWaiting = 7,

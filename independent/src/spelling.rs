@@ -4,6 +4,7 @@
 //! every line written here is read as the same command again.
 
 use crate::command::{Command, Reply, Start};
+use crate::flight::Flight;
 use crate::keeper::Rule;
 use crate::window::Window;
 use crate::writer::Writer;
@@ -19,6 +20,7 @@ impl Command {
             Command::Read => writer.text(b"(read)"),
             Command::Waiting => writer.text(b"(waiting)"),
             Command::Window(window) => write_window(window, writer),
+            Command::Flight(flight) => write_flight(flight, writer),
         }
     }
 }
@@ -63,5 +65,16 @@ fn write_window(window: &Window, writer: &mut Writer) {
     writer.date(window.start);
     writer.text(b" ");
     writer.date(window.end);
+    writer.text(b"))");
+}
+
+/// `(flight PEER (OUT BACK))`
+fn write_flight(flight: &Flight, writer: &mut Writer) {
+    writer.text(b"(flight ");
+    writer.count(u64::from(flight.peer));
+    writer.text(b" (");
+    writer.count(u64::from(flight.out_time));
+    writer.text(b" ");
+    writer.count(u64::from(flight.back_time));
     writer.text(b"))");
 }

@@ -74,6 +74,11 @@ pub fn write_window(out: &mut [u8], slot: u64, start: [u64; 6], end: [u64; 6]) -
     write(out, Command::window(slot, start, end))
 }
 
+/// `(flight PEER (OUT BACK))`
+pub fn write_flight(out: &mut [u8], peer: u64, out_time: u64, back_time: u64) -> Written {
+    write(out, Command::flight(peer, out_time, back_time))
+}
+
 /// Reads a line, given without its LF, and writes the command that it is: "a
 /// line read and written gives the plain spelling". Only grouped numerals have
 /// another, so a line without `_` gives its own bytes.

@@ -30,6 +30,9 @@ fn check(valid: bool, change: impl Fn(&mut Keeper)) {
         "(waiting)",
         "(drop 5)",
         "(window 0 (1900-01-01T00:00:00 2099-12-31T23:59:59))",
+        "(flight 9 (1 2))",
+        "(flight 5 (1 2))",
+        "(flight 3 (1 2))",
     ] {
         if !valid {
             assert_eq!(ask(&mut keeper, line), "(no 3)", "{line}");
@@ -146,6 +149,23 @@ fn peers_without_a_request() {
     }
     check(false, |keeper| keeper.waiting = 1 << 8);
     check(false, |keeper| keeper.waiting |= 1 << 9);
+}
+
+/// At every place: waiting peers, others and the board itself.
+#[test]
+fn flight_times() {
+    for peer in 0..16 {
+        check(true, |keeper| keeper.out_times[peer] = 1_000_000_000);
+        check(true, |keeper| keeper.back_times[peer] = 1_000_000_000);
+        for time in [1_000_000_001, 1 << 31, u32::MAX] {
+            check(false, |keeper| keeper.out_times[peer] = time);
+            check(false, |keeper| keeper.back_times[peer] = time);
+        }
+    }
+    check(true, |keeper| {
+        keeper.out_times = [1_000_000_000; 16];
+        keeper.back_times = [1_000_000_000; 16];
+    });
 }
 
 #[test]

@@ -6,8 +6,8 @@ use independent::{
 
 use crate::caller::{after, UNTOUCHED};
 
-fn image_of(keeper: &Keeper) -> [u8; 232] {
-    let mut image = [UNTOUCHED; 232];
+pub fn image_of(keeper: &Keeper) -> [u8; 360] {
+    let mut image = [UNTOUCHED; 360];
     keeper.to_image(&mut image);
     image
 }
@@ -27,10 +27,14 @@ fn distinct() -> Keeper {
         waiting: 0x0706,
         tags: [0; 16],
         sent_at: [0; 16],
+        out_times: [0; 16],
+        back_times: [0; 16],
     };
     for peer in 0..16_u32 {
         keeper.tags[peer as usize] = 0x0101_0101 * peer + 0x2B2A_2928;
         keeper.sent_at[peer as usize] = 0x0102_0304_0506_0708 * u64::from(peer);
+        keeper.out_times[peer as usize] = 0x0101_0101 * peer + 0xA3A2_A1A0;
+        keeper.back_times[peer as usize] = 0x0101_0101 * peer + 0xC3C2_C1C0;
     }
     keeper
 }
@@ -40,7 +44,7 @@ fn layout() {
     let image = image_of(&distinct());
     assert_eq!(
         image[..16],
-        [1, 1, 2, 1, 4, 5, 6, 7, 8, 9, 10, 11, 12, 13, 14, 15]
+        [2, 1, 2, 1, 4, 5, 6, 7, 8, 9, 10, 11, 12, 13, 14, 15]
     );
     assert_eq!(
         image[16..24],
@@ -52,6 +56,12 @@ fn layout() {
     assert_eq!(image[104..112], [0; 8]);
     assert_eq!(image[112..120], [8, 7, 6, 5, 4, 3, 2, 1]);
     assert_eq!(image[224..232], [120, 105, 90, 75, 60, 45, 30, 15]);
+    assert_eq!(image[232..236], [0xA0, 0xA1, 0xA2, 0xA3]);
+    assert_eq!(image[236..240], [0xA1, 0xA2, 0xA3, 0xA4]);
+    assert_eq!(image[292..296], [0xAF, 0xB0, 0xB1, 0xB2]);
+    assert_eq!(image[296..300], [0xC0, 0xC1, 0xC2, 0xC3]);
+    assert_eq!(image[300..304], [0xC1, 0xC2, 0xC3, 0xC4]);
+    assert_eq!(image[356..360], [0xCF, 0xD0, 0xD1, 0xD2]);
 }
 
 #[test]
@@ -64,6 +74,13 @@ fn round_trip() {
             "(request 1)",
             "(pass 7)",
         ]),
+        after(&[
+            "(start 9 mm 0 (0 0))",
+            "(flight 0 (1 2))",
+            "(flight 15 (1000000000 0))",
+            "(flight 8 (0 1000000000))",
+            "(request 8)",
+        ]),
     ] {
         assert_eq!(Keeper::from_image(&image_of(&keeper)), Some(keeper));
     }
@@ -72,11 +89,11 @@ fn round_trip() {
 #[test]
 fn readable_images_are_read_byte_by_byte() {
     let base = image_of(&distinct());
-    for place in 0..232 {
+    for place in 0..360 {
         for byte in 0..=255 {
             let mut image = base;
             image[place] = byte;
-            let readable = image[0] == 1 && image[1] <= 1 && image[3] <= 1;
+            let readable = image[0] == 2 && image[1] <= 1 && image[3] <= 1;
             match Keeper::from_image(&image) {
                 Some(keeper) => {
                     assert!(readable);
@@ -90,17 +107,17 @@ fn readable_images_are_read_byte_by_byte() {
 
 #[test]
 fn fresh() {
-    let mut image = [UNTOUCHED; 232];
+    let mut image = [UNTOUCHED; 360];
     assert_eq!(fresh_image(&mut image), 0);
-    let mut expected = [0; 232];
-    expected[0] = 1;
+    let mut expected = [0; 360];
+    expected[0] = 2;
     assert_eq!(image, expected);
     assert_eq!(Keeper::from_image(&image), Some(Keeper::fresh()));
 }
 
 #[test]
 fn other_lengths() {
-    for length in [0, 1, 231, 233, 500] {
+    for length in [0, 1, 231, 232, 233, 296, 359, 361, 500] {
         let mut image = vec![UNTOUCHED; length];
         let mut out = [UNTOUCHED; 256];
         let answered = answer_image(&mut image, b"(start 0 im 0 (0 0))", &mut out);
@@ -128,7 +145,7 @@ fn other_lengths() {
 }
 
 /// Runs a line on the image and on the keeper that it stands for.
-fn check_line(image: &mut [u8; 232], line: &str) -> u8 {
+pub fn check_line(image: &mut [u8; 360], line: &str) -> u8 {
     let before = *image;
     let mut keeper = Keeper::from_image(image).unwrap_or(Keeper::fresh());
     let (mut out, mut out_by_keeper) = ([UNTOUCHED; 256], [UNTOUCHED; 256]);
@@ -146,13 +163,18 @@ fn check_line(image: &mut [u8; 232], line: &str) -> u8 {
 
 #[test]
 fn a_run_on_an_image() {
-    let mut image = [0; 232];
+    let mut image = [0; 360];
     fresh_image(&mut image);
     for (line, number) in [
         ("(read)", 3),
         ("(start 3 im 200 (-1000 1000))", 0),
         ("(pass 10)", 0),
+        ("(flight 4 (1_000 250000))", 0),
+        ("(flight 4 (-1 0))", 1),
+        ("(flight 4 (0 1000000001))", 2),
+        ("(flight 3 (1 2))", 4),
         ("(request 4)", 0),
+        ("(flight 4 (0 0))", 6),
         ("(request 4)", 6),
         ("(request 3)", 4),
         ("(pass 5)", 0),
@@ -179,7 +201,8 @@ fn a_run_on_an_image() {
 #[test]
 fn damaged_images() {
     let valid = image_of(&after(&["(start 3 im 0 (0 0))", "(request 4)"]));
-    let mut damages: Vec<(usize, u8)> = vec![(0, 0), (0, 2), (0, 255), (1, 2), (3, 2), (3, 255)];
+    let mut damages: Vec<(usize, u8)> =
+        vec![(0, 0), (0, 1), (0, 3), (0, 255), (1, 2), (3, 2), (3, 255)];
     // Readable, but not counting as started.
     damages.extend([
         (1, 0),
@@ -192,6 +215,8 @@ fn damaged_images() {
         (104, 1),
     ]);
     damages.extend([(32, 0), (36, 1), (31, 0xFF), (56, 2), (136, 1), (231, 1)]);
+    // The highest byte of every out time and back time, which is then 1006632960.
+    damages.extend((232..360).skip(3).step_by(4).map(|place| (place, 0x3C)));
     for (place, byte) in damages {
         let mut image = valid;
         image[place] = byte;

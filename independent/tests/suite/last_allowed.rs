@@ -30,8 +30,37 @@ fn board_and_peer() {
             ("(request 0)", "(sent 0 2)"),
             ("(drop 16)", "(no 2)"),
             ("(reply 16 1 (0 0))", "(no 2)"),
+            ("(flight 16 (0 0))", "(no 2)"),
+            ("(flight 13 (0 0))", "(flight 13)"),
         ],
     );
+}
+
+#[test]
+fn flight_times() {
+    let mut keeper = after(&["(start 0 im 0 (0 0))"]);
+    expect(
+        &mut keeper,
+        &[
+            ("(flight 1 (1000000001 0))", "(no 2)"),
+            ("(flight 1 (0 1000000001))", "(no 2)"),
+            ("(flight 1 (1000000001 1000000001))", "(no 2)"),
+            ("(flight 1 (1_000_000_001 0))", "(no 2)"),
+            ("(flight 1 (0 1_000_000_001))", "(no 2)"),
+            // 2 to the power 32, which must not count as 0, and the same plus 1.
+            ("(flight 1 (4294967296 0))", "(no 2)"),
+            ("(flight 1 (0 4294967297))", "(no 2)"),
+            ("(flight 1 (9999999999999999999 0))", "(no 2)"),
+            ("(flight 1 (0 9999999999999999999))", "(no 2)"),
+            ("(flight 1 (1000000000 0))", "(flight 1)"),
+            ("(flight 2 (0 1000000000))", "(flight 2)"),
+            ("(flight 3 (1_000_000_000 1_000_000_000))", "(flight 3)"),
+            ("(flight 4 (0 0))", "(flight 4)"),
+        ],
+    );
+    let limit = 1_000_000_000;
+    assert_eq!(keeper.out_times[..5], [0, limit, 0, limit, 0]);
+    assert_eq!(keeper.back_times[..5], [0, 0, limit, limit, 0]);
 }
 
 #[test]

@@ -49,6 +49,8 @@ fn allowed_numbers() {
         Order::Read,
         Order::Waiting,
         Order::Window(15, [1900, 1, 1, 0, 0, 0], [2099, 12, 31, 23, 59, 59]),
+        Order::Flight(0, 0, 0),
+        Order::Flight(15, 1_000_000_000, 1_000_000_000),
     ] {
         on_every_length(|out| order.write(out), Ok(&order.line()));
     }
@@ -69,6 +71,10 @@ fn number_10_comes_before_number_2() {
         Order::Reply(0, 1, 0, END + 1),
         Order::Reply(u64::MAX, u64::MAX, i64::MAX, i64::MIN),
         Order::Drop(1 << 32),
+        Order::Flight(16, 0, 0),
+        Order::Flight(0, 1_000_000_001, 0),
+        Order::Flight(0, 0, 1_000_000_001),
+        Order::Flight(u64::MAX, u64::MAX, u64::MAX),
     ] {
         on_every_length(|out| order.write(out), Err(2));
     }
@@ -95,6 +101,7 @@ fn plain_on_every_length() {
         "(pass 5)",
         "(waiting)",
         "(window 3 (1999-12-31T23:59:59 2000-01-01T00:00:00))",
+        "(flight 3 (20 10))",
     ] {
         on_every_length(|out| plain(line.as_bytes(), out), Ok(line));
     }
@@ -104,6 +111,10 @@ fn plain_on_every_length() {
         (
             "(start 3 im 50_000 (-1_000 1000))",
             "(start 3 im 50000 (-1000 1000))",
+        ),
+        (
+            "(flight 3 (1_000_000_000 1_000))",
+            "(flight 3 (1000000000 1000))",
         ),
     ] {
         on_every_length(|out| plain(line.as_bytes(), out), Ok(spelling));
@@ -118,6 +129,8 @@ fn plain_on_every_length() {
         ("(pass 86400001)", 2),
         ("(pass 86_400_001)", 2),
         ("(reply 1 1 (1 0))", 2),
+        ("(flight 1 (1 -1))", 1),
+        ("(flight 1 (1 1000000001))", 2),
         ("(window 3 (2000-01-01T00:00:00 2000-01-01T00:00))", 1),
         ("(window 16 (2000-01-01T00:00:60 2000-01-01T00:00:00))", 2),
         ("(window 3 (2000-01-01T00:00:60 2000-01-01T00:00:00))", 11),

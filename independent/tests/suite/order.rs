@@ -2,8 +2,8 @@
 //! at every call that writes one, what must hold for all of them.
 
 use independent::{
-    plain, write_drop, write_pass, write_read, write_reply, write_request, write_start,
-    write_waiting, write_window, Written,
+    plain, write_drop, write_flight, write_pass, write_read, write_reply, write_request,
+    write_start, write_waiting, write_window, Written,
 };
 
 use crate::caller::UNTOUCHED;
@@ -26,6 +26,7 @@ pub enum Order {
     Read,
     Waiting,
     Window(u64, [u64; 6], [u64; 6]),
+    Flight(u64, u64, u64),
 }
 
 impl Order {
@@ -44,6 +45,9 @@ impl Order {
             Order::Read => write_read(out),
             Order::Waiting => write_waiting(out),
             Order::Window(slot, start, end) => write_window(out, slot, start, end),
+            Order::Flight(peer, out_time, back_time) => {
+                write_flight(out, peer, out_time, back_time)
+            }
         }
     }
 
@@ -76,6 +80,9 @@ impl Order {
             }
             Order::Read | Order::Waiting => true,
             Order::Window(..) => unreachable!(),
+            Order::Flight(peer, out_time, back_time) => {
+                peer <= 15 && out_time <= 1_000_000_000 && back_time <= 1_000_000_000
+            }
         }
     }
 
@@ -97,6 +104,9 @@ impl Order {
             Order::Window(slot, start, end) => {
                 let (start, end) = (text_of_date(start), text_of_date(end));
                 format!("(window {slot} ({start} {end}))")
+            }
+            Order::Flight(peer, out_time, back_time) => {
+                format!("(flight {peer} ({out_time} {back_time}))")
             }
         }
     }
@@ -205,6 +215,23 @@ pub const TAGS: [u64; 9] = [
     u64::MAX,
 ];
 
+/// Out and back times. Some of those above the limit would be allowed if they
+/// were cut to 32 bits.
+pub const TIMES: [u64; 12] = [
+    0,
+    1,
+    9,
+    10,
+    999_999_999,
+    1_000_000_000,
+    1_000_000_001,
+    u32::MAX as u64,
+    1 << 32,
+    (1 << 32) + 1_000_000_000,
+    1 << 63,
+    u64::MAX,
+];
+
 /// Dates that exist, in order, and others. Some of the others would exist if a
 /// field were cut to 8, 16 or 32 bits, or to its width.
 pub const DATES: [[u64; 6]; 28] = [
@@ -255,6 +282,11 @@ pub fn samples() -> Vec<Order> {
     for start in DATES {
         for end in DATES {
             orders.extend(BOARDS.map(|slot| Order::Window(slot, start, end)));
+        }
+    }
+    for out_time in TIMES {
+        for back_time in TIMES {
+            orders.extend(BOARDS.map(|peer| Order::Flight(peer, out_time, back_time)));
         }
     }
     for (first, second) in edge_pairs() {

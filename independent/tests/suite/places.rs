@@ -24,9 +24,9 @@ const fn place(before: &'static str, after: &'static str, least: i128, most: i12
 }
 
 /// Board, claim, both edges of a start, ticks, the peers, tag, both edges of a
-/// reply, slot.
+/// reply, slot, peer and both times of a flight.
 #[rustfmt::skip]
-pub const PLACES: [Place; 12] = [
+pub const PLACES: [Place; 15] = [
     place("(start ", " im 200 (-1000 1000))", 0, 15),
     place("(start 3 mm ", " (-1000 1000))", 0, 50_000),
     place("(start 3 im 200 (", " 4000000000000000000))", -END, END),
@@ -39,6 +39,9 @@ pub const PLACES: [Place; 12] = [
     place("(reply 4 1 (", " 4000000000000000000))", -END, END),
     place("(reply 4 1 (-4000000000000000000 ", "))", -END, END),
     place("(window ", " (1999-12-31T23:59:59 2000-01-01T00:00:00))", 0, 15),
+    place("(flight ", " (1000 1000000000))", 0, 15),
+    place("(flight 4 (", " 1000))", 0, 1_000_000_000),
+    place("(flight 4 (1000 ", "))", 0, 1_000_000_000),
 ];
 
 impl Place {

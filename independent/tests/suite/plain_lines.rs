@@ -38,7 +38,7 @@ fn check(line: &[u8]) -> u8 {
     number
 }
 
-const COMMANDS: [&str; 10] = [
+const COMMANDS: [&str; 13] = [
     "(start 3 im 200 (-1000 1000))",
     "(start 15 mm 50000 (-5 2))",
     "(pass 86400000)",
@@ -49,12 +49,15 @@ const COMMANDS: [&str; 10] = [
     "(waiting)",
     "(window 7 (1999-12-31T23:59:58 1999-12-31T23:59:59))",
     "(window 15 (2000-02-29T00:00:00 2010-10-20T10:20:30))",
+    "(flight 0 (0 0))",
+    "(flight 9 (12 345))",
+    "(flight 15 (1000000000 999999999))",
 ];
 
 /// Commands with grouped numerals, in some beside plain ones, and their plain
 /// spellings.
 #[rustfmt::skip]
-const GROUPED: [(&str, &str); 8] = [
+const GROUPED: [(&str, &str); 10] = [
     ("(start 3 im 200 (-1_000 1_000))", "(start 3 im 200 (-1000 1000))"),
     ("(start 15 mm 50_000 (-1000 1_000))", "(start 15 mm 50000 (-1000 1000))"),
     ("(start 0 im 1000 (-12_345 1234567))", "(start 0 im 1000 (-12345 1234567))"),
@@ -69,6 +72,8 @@ const GROUPED: [(&str, &str); 8] = [
         "(reply 4 1000 (-4000000000000000000 -3_999_999_999_999_999_999))",
         "(reply 4 1000 (-4000000000000000000 -3999999999999999999))",
     ),
+    ("(flight 4 (1_000_000_000 1000))", "(flight 4 (1000000000 1000))"),
+    ("(flight 4 (1000 12_345_678))", "(flight 4 (1000 12345678))"),
 ];
 
 /// How often each number was returned by `plain`.
@@ -115,6 +120,9 @@ fn a_command_that_a_keeper_refuses_is_written() {
         ("(pass 1)", "(no 5)"),
         ("(reply 2 1 (0 0))", "(no 7)"),
         ("(drop 2)", "(no 7)"),
+        ("(flight 1 (2 1))", "(no 4)"),
+        ("(request 3)", "(sent 3 1)"),
+        ("(flight 3 (2 1))", "(no 6)"),
     ] {
         assert_eq!(ask(&mut keeper, line), answer);
         assert_eq!(spelled(line).as_deref(), Ok(line));
@@ -135,6 +143,8 @@ fn number_1() {
         "(pass 12_7)", "(pass 1000_000)", "(pass _100)", "(pass 1_0000)", "(request _1)",
         "(pass 10_000_000_000_000_000_000)", "(re_ad)", "(read_)", "(pass_1)", "(drop 1_)",
         "(start 3 i_m 0 (0 0))", "(start 3 im 0_(0 0))", "(start 3 im_0 (0 0))",
+        "(flight 1)", "(flight 1 (2))", "(flight 1 (2 3 4))", "(flight 1 (-2 3))",
+        "(flight 1 (2 -3))", "(flight 1 (2 12_7))", "(flight 1 (2 3))\n",
     ] {
         assert_eq!(check(line.as_bytes()), 1, "{line:?}");
     }
@@ -166,6 +176,11 @@ fn number_2() {
         "(pass 86_400_001)",
         "(request 1_000)",
         "(reply 1 16_777_216 (0 0))",
+        "(flight 16 (0 0))",
+        "(flight 1 (1000000001 0))",
+        "(flight 1 (0 1000000001))",
+        "(flight 1 (1_000_000_001 0))",
+        "(flight 1 (0 9_999_999_999_999_999_999))",
     ] {
         assert_eq!(check(line.as_bytes()), 2, "{line:?}");
     }
@@ -198,6 +213,8 @@ fn number_1_comes_before_number_2() {
         "(start 1_000 im 50_001 (0 1_00))",
         "(reply 1_000 0 (2 1_))",
         "(window 16 (2_000-01-01T00:00:00 2000-01-01T00:00:00))",
+        "(flight 16 (1000000001 -0))",
+        "(flight 16 (1000000001 0) )",
     ] {
         assert_eq!(check(line.as_bytes()), 1, "{line:?}");
     }
@@ -276,7 +293,7 @@ fn every_change_of_one_byte() {
 fn random_lines() {
     let mut random = Random(0x1357_9BDF_0246_8ACE);
     let mut seen = Seen([0; 13]);
-    for _ in 0..50_000 {
+    for _ in 0..60_000 {
         let line = random_line(&mut random);
         seen.check(&line);
     }

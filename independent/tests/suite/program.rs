@@ -79,6 +79,19 @@ fn the_oldest_request_first() {
 }
 
 #[test]
+fn flights() {
+    assert_run(
+        b"(flight 4 (1000 250000))\n(start 3 im 200 (0 10000000))\n(flight 4 (1000 250000))\n\
+        (flight 3 (1000 250000))\n(flight 4 (1000 1_000_000_001))\n(flight 4 (1000 -1))\n\
+        (request 4)\n(flight 4 (0 0))\n(reply 4 1 (5_000_000 6_000_000))\n\
+        (flight 4 (600_000 400_201))\n(request 4)\n(reply 4 2 (5500000 5500000))\n(read)\n",
+        "(no 3)\n(started 3)\n(flight 4)\n(no 4)\n(no 2)\n(no 1)\n(sent 4 1)\n(no 6)\n\
+        (taken 4 (4249800 5999000))\n(flight 4)\n(sent 4 2)\n\
+        (conflict 4 (4249800 5999000))\n(time (4249800 6999200) (5624500 1374700) 1 0)\n",
+    );
+}
+
+#[test]
 fn empty_and_unfinished_lines() {
     assert_run(b"", "");
     assert_run(b"\n", "(no 1)\n");

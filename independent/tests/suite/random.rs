@@ -42,6 +42,8 @@ pub fn random_line(random: &mut Random) -> Vec<u8> {
             "(waiting)",
             "(window 9 (1999-12-31T23:59:58 2000-01-01T00:00:00))",
             "(window 0 (2000-02-29T00:00:00 2000-02-29T00:00:01))",
+            "(flight 4 (1000000000 20))",
+            "(flight 5 (250_000 1_000_000))",
         ])
         .as_bytes()
         .to_vec();
@@ -80,9 +82,9 @@ fn random_images() {
     let mut random = Random(0x0123_4567_89AB_CDEF);
     let mut out = [0; 256];
     for _ in 0..20_000 {
-        let mut image = [0; 232];
+        let mut image = [0; 360];
         image.fill_with(|| random.next() as u8);
-        image[..4].copy_from_slice(&[1, 1, 3, 0]);
+        image[..4].copy_from_slice(&[2, 1, 3, 0]);
         let line = random_line(&mut random);
         answer_image(&mut image, &line, &mut out);
     }
@@ -98,9 +100,10 @@ fn expected_reply(keeper: &Keeper, peer: usize, trailing: i64, leading: i64) -> 
     if wait > 3_600_000 {
         return "(no 8)".into();
     }
-    let from = lower.max(trailing - longest);
-    let through = upper.min(leading + wait * longest);
-    if from > through {
+    let begin = trailing - longest + i128::from(keeper.back_times[peer]);
+    let end = leading + wait * longest - i128::from(keeper.out_times[peer]);
+    let (from, through) = (lower.max(begin), upper.min(end));
+    if begin > end || from > through {
         return format!("(conflict {peer} ({lower} {upper}))");
     }
     if keeper.rule == Rule::Im {
@@ -154,6 +157,10 @@ fn random_replies() {
         keeper.sent_at[4] = random.below(1_000_000);
         let wait = random.pick(&[0, 1, 2, 1000, 3_600_000, 3_600_001]);
         keeper.ticks = keeper.sent_at[4] + wait;
+        let times = [0, 0, 1, 500_000, 1_000_000, 1_000_000_000];
+        // Those of the other places must make no difference.
+        keeper.out_times = [(); 16].map(|()| random.pick(&times));
+        keeper.back_times = [(); 16].map(|()| random.pick(&times));
         let (trailing, leading) = random_interval(&mut random, centre);
         let expected = expected_reply(&keeper, 4, trailing, leading);
         assert_eq!(

@@ -41,6 +41,12 @@ fn number_of_shape(text: &str) -> Option<u8> {
             let number = number_of_window(count(slot)?, date(start)?, date(end)?);
             return (again == text).then_some(number);
         }
+        ["flight", peer, out_time, back_time] => (
+            format!("(flight {peer} ({out_time} {back_time}))"),
+            (count(peer)? <= 15)
+                & (count(out_time)? <= 1_000_000_000)
+                & (count(back_time)? <= 1_000_000_000),
+        ),
         _ => return None,
     };
     (again == text).then_some(if allowed { 0 } else { 2 })

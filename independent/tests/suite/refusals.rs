@@ -15,6 +15,8 @@ fn number_3() {
         "(read)",
         "(waiting)",
         "(window 0 (1999-12-31T00:00:00 2000-01-02T00:00:00))",
+        "(flight 0 (0 0))",
+        "(flight 1 (1000000000 1000000000))",
     ] {
         assert_eq!(ask(&mut keeper, line), "(no 3)", "{line}");
     }
@@ -33,7 +35,9 @@ fn number_4() {
             ("(request 7)", "(no 4)"),
             ("(reply 7 1 (0 0))", "(no 4)"),
             ("(drop 7)", "(no 4)"),
+            ("(flight 7 (0 0))", "(no 4)"),
             ("(reply 7 0 (0 0))", "(no 2)"),
+            ("(flight 7 (0 1000000001))", "(no 2)"),
         ],
     );
     // Number 4 comes before number 9.
@@ -48,7 +52,10 @@ fn number_6() {
         &mut keeper,
         &[
             ("(request 1)", "(no 6)"),
+            ("(flight 1 (0 0))", "(no 6)"),
+            ("(flight 2 (5 6))", "(flight 2)"),
             ("(request 2)", "(sent 2 2)"),
+            ("(flight 2 (5 6))", "(no 6)"),
             ("(waiting)", "(waiting (1 1) (2 2))"),
         ],
     );
@@ -124,6 +131,10 @@ fn number_10() {
         b"(window 0 (2000-00-00T00:00:00 2000-00-00T00:00:00))",
         b"(window 0 (2000-01-01T00:00:00 2000-01-01T00:00:00))",
         b"(window 0 (2000-01-01T00:00:00 2000-01-02T00:00:00))",
+        b"(flight 1 (1 2))",
+        b"(flight 1 (-1 2))",
+        b"(flight 1 (1 1000000001))",
+        b"(flight 0 (1 2))",
         &too_long,
     ] {
         for length in [0, 1, 100, 255] {

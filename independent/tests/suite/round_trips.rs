@@ -49,8 +49,15 @@ fn check_reading(order: Order, line: &str) {
         }
         Order::Waiting => (waiting_for(5, 9), "(waiting (5 9))".into()),
         Order::Window(slot, start, end) => return check_window(slot, start, end, line),
+        Order::Flight(peer, ..) => (wide(peer), format!("(flight {peer})")),
     };
     assert_eq!(ask(&mut keeper, line), answer, "{line}");
+    if let Order::Flight(peer, out_time, back_time) = order {
+        let mut expected = wide(peer);
+        expected.out_times[peer as usize] = out_time as u32;
+        expected.back_times[peer as usize] = back_time as u32;
+        assert_eq!(keeper, expected);
+    }
     if let Order::Start(board, rule, claim, lower, upper) = order {
         let expected = Keeper {
             started: true,
@@ -133,12 +140,15 @@ fn random_window(random: &mut Random) -> Order {
 fn random_order(random: &mut Random) -> Order {
     let (first, second) = random_edges(random);
     let board = random.below(16);
-    match random.below(8) {
+    let mut time = || random.below(1_000_000_001) >> random.below(30);
+    let (out_time, back_time) = (time(), time());
+    match random.below(9) {
         0 | 1 => Order::Start(board, random.below(2), random.below(50_001), first, second),
         2 => Order::Pass(random.below(86_400_001)),
         3 => Order::Request(board),
         4 => Order::Reply(board, random.below(16_777_215) + 1, first, second),
         5 => Order::Drop(board),
+        6 => Order::Flight(board, out_time, back_time),
         _ => random_window(random),
     }
 }
@@ -189,6 +199,7 @@ fn every_small_number() {
             Order::Start(board, 1, 0, -7, 7),
             Order::Reply(board, 12, -7, 7),
             Order::Window(board, [2000, 1, 1, 0, 0, 0], [2000, 1, 1, 0, 0, 1]),
+            Order::Flight(board, 12, 7),
         ] {
             check_reading(order, &written(order).expect("a line"));
         }

@@ -59,6 +59,33 @@ fn replies_that_are_no_command() {
 }
 
 #[test]
+#[rustfmt::skip]
+fn flights_that_are_no_command() {
+    let mut keeper = after(&["(start 0 im 0 (0 0))"]);
+    for line in [
+        "(flight)", "(flight )", "(flight 1)", "(flight 1 )", "(flight 1 ())", "(flight 1 (2))",
+        "(flight 1 (2 ))", "(flight 1 2 3)", "(flight 1 (2 3)", "(flight 1 (2 3)) ",
+        "(flight 1 (2 3)))", "(flight 1 (2 3) )", "(flight 1 (2 3 ))", "(flight 1 ( 2 3))",
+        "(flight 1 (2  3))", "(flight 1(2 3))", "(flight 1  (2 3))", "(flight  1 (2 3))",
+        "(flight 1 (2 3 4))", "(flight 1 2 (3 4))", "(flight (2 3))", "(flight 1 (2, 3))",
+        "(flight1 (2 3))", "(flights 1 (2 3))", "(Flight 1 (2 3))", "(fligh 1 (2 3))",
+        "(flight 01 (2 3))", "(flight 1 (02 3))", "(flight 1 (2 03))", "(flight 1 (+2 3))",
+        "(flight 1 (2 3x))", "(flight 1 (2x 3))", "(flight 1 (2 3))\n", "(flight 1 (2\t3))",
+        // A time is no edge.
+        "(flight -1 (2 3))", "(flight 1 (-2 3))", "(flight 1 (2 -3))", "(flight 1 (-2 -3))",
+        "(flight 1 (-0 3))", "(flight 1 (2 -0))", "(flight 1 (-1000000001 3))",
+        "(flight 1 (2 -1_000))",
+        // "12_7, 1000_000 and _100 are 1", and so are 20 digits.
+        "(flight 1 (12_7 3))", "(flight 1 (2 1000_000))", "(flight 1 (_100 3))",
+        "(flight 1 (2 1_000000000))", "(flight 1 (10000000000000000000 3))",
+        "(flight 1 (2 10_000_000_000_000_000_000))",
+    ] {
+        assert_eq!(ask(&mut keeper, line), "(no 1)", "{line:?}");
+        assert_eq!(ask(&mut Keeper::fresh(), line), "(no 1)", "{line:?}");
+    }
+}
+
+#[test]
 fn every_cut_of_a_command_and_every_added_byte() {
     let base = after(&["(start 3 mm 7 (-5 6))", "(request 1)"]);
     for line in [
@@ -69,6 +96,7 @@ fn every_cut_of_a_command_and_every_added_byte() {
         "(read)",
         "(waiting)",
         "(window 1 (1999-12-31T23:59:59 2000-01-01T00:00:00))",
+        "(flight 2 (10 9))",
     ] {
         let bytes = line.as_bytes();
         assert!(!ask(&mut base.clone(), bytes).starts_with("(no"));
@@ -102,9 +130,12 @@ fn shape_comes_before_range_and_range_before_order() {
             ("(start 16 xx 0 (0 0))", "(no 1)"),
             ("(start 16 im 50001 (2 1)))", "(no 1)"),
             ("(reply 16 0 (2 1) )", "(no 1)"),
+            ("(flight 16 (1000000001 -1))", "(no 1)"),
             ("(pass 86400001)", "(no 2)"),
             ("(reply 16 0 (2 1))", "(no 2)"),
+            ("(flight 16 (1000000001 1))", "(no 2)"),
             ("(pass 5)", "(no 3)"),
+            ("(flight 15 (1000000000 1))", "(no 3)"),
         ],
     );
 }

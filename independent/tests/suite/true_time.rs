@@ -1,5 +1,6 @@
-//! Two boards that ask each other at any moment between their ticks. Because
-//! their ticks keep to the claim, their edges must hold the true time.
+//! Two boards that ask each other at any moment between their ticks, with known
+//! flight times or without. Because their ticks keep to the claim and their
+//! frames to the flight times, their edges must hold the true time.
 
 use independent::Keeper;
 
@@ -76,9 +77,11 @@ impl Bus {
         Bus { boards, now }
     }
 
-    /// The time that a frame or a board takes: none, about a tick, or any.
-    fn wait(&mut self, random: &mut Random) {
+    /// The time that a frame or a board takes: at least this, and beside it
+    /// none, about a tick, or any.
+    fn wait(&mut self, least: u32, random: &mut Random) {
         let any = random.below(3_000_000) as i64;
+        self.now += i64::from(least);
         self.now += random.pick(&[0, 1, 949_999, 999_999, 1_000_000, any, any]);
         for board in &mut self.boards {
             board.count_until(self.now, random);
@@ -86,17 +89,20 @@ impl Bus {
         }
     }
 
-    /// Lets one board ask the other, and returns its answer to the reply.
-    fn exchange(&mut self, random: &mut Random) -> String {
+    /// Lets one board ask the other, and returns its answer to the reply. Both
+    /// frames take at least one of these times, which the board knows.
+    fn exchange(&mut self, times: &[u32], random: &mut Random) -> String {
         let asking = random.below(2) as usize;
         let asked = 1 - asking;
-        self.wait(random);
+        self.wait(0, random);
+        let (out_time, back_time) = (random.pick(times), random.pick(times));
         let keeper = &mut self.boards[asking].keeper;
+        ask(keeper, format!("(flight {asked} ({out_time} {back_time}))"));
         ask(keeper, format!("(request {asked})"));
         let tag = keeper.requests;
-        self.wait(random);
+        self.wait(out_time, random);
         let [trailing, leading] = self.boards[asked].told();
-        self.wait(random);
+        self.wait(back_time, random);
         let reply = format!("(reply {asked} {tag} ({trailing} {leading}))");
         let answer = ask(&mut self.boards[asking].keeper, reply);
         self.boards[asking].check(self.now);
@@ -104,14 +110,13 @@ impl Bus {
     }
 }
 
-#[test]
-fn the_edges_hold_the_true_time() {
-    let mut random = Random(0x7121_E71A_3E00_0005);
+/// Checks many exchanges in which the boards know some of these times.
+fn check_exchanges(times: &[u32], mut random: Random) {
     let mut seen = [0, 0];
     for _ in 0..1000 {
         let mut bus = Bus::started(&mut random);
         for _ in 0..10 {
-            let answer = bus.exchange(&mut random);
+            let answer = bus.exchange(times, &mut random);
             for (count, word) in seen.iter_mut().zip(["(taken", "(kept"]) {
                 *count += u32::from(answer.starts_with(word));
             }
@@ -119,4 +124,15 @@ fn the_edges_hold_the_true_time() {
     }
     assert_eq!(seen[0] + seen[1], 10_000, "{seen:?}");
     assert!(seen.iter().all(|&count| count > 1000), "{seen:?}");
+}
+
+#[test]
+fn the_edges_hold_the_true_time() {
+    check_exchanges(&[0], Random(0x7121_E71A_3E00_0005));
+}
+
+#[test]
+fn the_edges_hold_the_true_time_with_flight_times() {
+    let times = [0, 1, 400_000, 1_000_200, 5_000_000];
+    check_exchanges(&times, Random(0xF116_4771_3E00_0007));
 }

@@ -29,6 +29,10 @@ fn every_form() {
             Order::Window(15, [2001, 2, 3, 4, 5, 6], [2001, 2, 3, 4, 5, 7]),
             "(window 15 (2001-02-03T04:05:06 2001-02-03T04:05:07))",
         ),
+        (Order::Flight(0, 0, 0), "(flight 0 (0 0))"),
+        (Order::Flight(4, 7, 30), "(flight 4 (7 30))"),
+        (Order::Flight(4, 30, 7), "(flight 4 (30 7))"),
+        (Order::Flight(15, 1_000_000_000, 1_000_000_000), "(flight 15 (1000000000 1000000000))"),
     ] {
         assert_eq!(written(order).as_deref(), Ok(line));
     }
@@ -48,6 +52,12 @@ fn every_count_of_digits() {
         1, 9, 10, 99, 100, 999, 1000, 9999, 10_000, 99_999, 9_999_999, 10_000_000,
     ] {
         assert_eq!(written(Order::Pass(ticks)), Ok(format!("(pass {ticks})")));
+    }
+    for power in (0..=9).map(|digits| 10_u64.pow(digits)) {
+        for time in [power - 1, power] {
+            let line = format!("(flight 1 ({time} {time}))");
+            assert_eq!(written(Order::Flight(1, time, time)), Ok(line));
+        }
     }
 }
 

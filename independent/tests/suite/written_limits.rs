@@ -25,12 +25,43 @@ fn board_and_peer() {
             &format!("(reply {board} 1 (0 0))"),
         );
         assert_allowed(Order::Drop(board), &format!("(drop {board})"));
+        assert_allowed(
+            Order::Flight(board, 0, 0),
+            &format!("(flight {board} (0 0))"),
+        );
     }
     for board in [16, 255, 256, 65_536, 1 << 32, 1 << 63, u64::MAX] {
         assert_refused(Order::Start(board, 0, 0, 0, 0));
         assert_refused(Order::Request(board));
         assert_refused(Order::Reply(board, 1, 0, 0));
         assert_refused(Order::Drop(board));
+        assert_refused(Order::Flight(board, 0, 0));
+    }
+}
+
+#[test]
+fn flight_times() {
+    let limit = 1_000_000_000;
+    for (out_time, back_time) in [(0, 0), (limit, 0), (0, limit), (limit, limit), (2, 1)] {
+        assert_allowed(
+            Order::Flight(4, out_time, back_time),
+            &format!("(flight 4 ({out_time} {back_time}))"),
+        );
+    }
+    for time in [
+        limit + 1,
+        1 << 31,
+        1 << 32,
+        (1 << 32) + 1,
+        1 << 63,
+        u64::MAX,
+    ] {
+        assert_refused(Order::Flight(4, time, 0));
+        assert_refused(Order::Flight(4, 0, time));
+        assert_refused(Order::Flight(4, limit, time));
+        assert_refused(Order::Flight(4, time, limit));
+        assert_refused(Order::Flight(4, time, time));
+        assert_refused(Order::Flight(16, time, time));
     }
 }
 
