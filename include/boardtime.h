@@ -16,7 +16,7 @@
  * No archive needs another. A program links those that have its calls, in any
  * order.
  *
- * The keeper is an image: an array of 232 bytes that the caller owns. A call
+ * The keeper is an image: an array of 360 bytes that the caller owns. A call
  * reads the image and answers; an accepted one makes it the image of the keeper
  * after it, by storing what the command changed: nothing for a read, a list of
  * the waiting peers or a window. A refused one leaves every byte as it was.
@@ -43,7 +43,7 @@
  * Layout of an image. Numbers are little-endian.
  *
  *   byte       field
- *   0          version, 1
+ *   0          version, 2
  *   1          started, 0 or 1
  *   2          board, 0 to 15
  *   3          rule, 0 for im, 1 for mm
@@ -57,8 +57,11 @@
  *   40..103    the tags: that of peer p's request in 4 bytes from 40 + 4 p
  *   104..231   the tick counts: that of peer p's request in 8 bytes from
  *              104 + 8 p
+ *   232..295   the out times in nanoseconds: that of peer p in 4 bytes from
+ *              232 + 4 p
+ *   296..359   the back times, the same: that of peer p from 296 + 4 p
  *
- * An image whose byte 0 is not 1, or whose byte 1 or byte 3 is above 1, counts
+ * An image whose byte 0 is not 2, or whose byte 1 or byte 3 is above 1, counts
  * as not started. So does one whose byte 1 is 0, and one that breaks any of
  * these: the board is at most 15 and the claim at most 50000; the edges are in
  * order and from -4000000000000000000 through 4000000000000000000; the ticks
@@ -66,8 +69,19 @@
  * and waiting peers together are at most the requests; the board's own bit is
  * clear; a waiting peer's tag is 1 through the requests, no other waiting
  * peer's, and its tick count at most the ticks; every other place, the board's
- * own too, holds 0 for both. A keeper that counts as not started accepts
+ * own too, holds 0 for both; every out time and every back time, the board's own
+ * too, is at most 1000000000. A keeper that counts as not started accepts
  * `(start ...)` alone.
+ *
+ * An image that an older library left is 232 bytes long, with a version of 1
+ * and without flight times. It cannot be gone on with: passed with its own
+ * length, it is refused with 255 and left as it was; put at the front of a
+ * buffer of 360 bytes, it counts as not started, by its version. A board that
+ * finds one makes a fresh image of 360 bytes, starts it with edges that hold the
+ * true time, and sets the flight times that it knows. Nothing of the old image is
+ * read: a request that waits in it is lost. As after every start the tags begin
+ * at 1 again, so a late reply to such a request must not be given to the new
+ * keeper, which may have sent one with the same tag.
  *
  * The edges of an image, and those in the answers to a pass and to a reply,
  * are those at the last tick that was passed. `(read)` tells the upper edge
@@ -77,6 +91,13 @@
  * given at any moment between two ticks, once all ticks that were counted are
  * passed. Its TRAILING and LEADING are edges that held the true time when the
  * peer sent them, as those that the peer's own `(read)` tells.
+ *
+ * `(flight PEER (OUT BACK))` sets a peer's out time and back time, in
+ * nanoseconds: a request never takes less than OUT to reach the peer, and its
+ * reply never less than BACK to come back. Both are 0 after a start, and stay as
+ * they are when a request ends. The bracket of that peer's next reply then begins
+ * BACK later and ends OUT earlier; a bracket left empty is a conflict. While a
+ * request to the peer waits they cannot be set (6).
  *
  * A board may keep the image in FRAM and go on with it after a reset. It then
  * owes the keeper the ticks that passed meanwhile: without them the edges need
@@ -107,7 +128,7 @@ extern "C" {
 #endif
 
 /* Length of an image. */
-#define BOARDTIME_IMAGE_BYTES 232
+#define BOARDTIME_IMAGE_BYTES 360
 /* Least length of the output of a call that has one; a shorter one is refused
    with 10. No answer is longer than this, and no line that is written. */
 #define BOARDTIME_OUTPUT_BYTES 256
@@ -131,7 +152,7 @@ extern "C" {
 #define BOARDTIME_OWN_BOARD 4
 /* An edge would leave the range of moments, or the ticks their limit. */
 #define BOARDTIME_OVERFLOW 5
-/* A request to a peer that has one waiting. */
+/* A request to a peer that has one waiting, or flight times for one. */
 #define BOARDTIME_STILL_WAITING 6
 /* A reply or drop for a peer with none waiting, or a reply with another tag. */
 #define BOARDTIME_NOT_WAITING 7
@@ -146,7 +167,7 @@ extern "C" {
 #define BOARDTIME_NO_DATE 11
 /* A window whose end is not later than its start. */
 #define BOARDTIME_NO_WINDOW 12
-/* The image is not 232 bytes long. Tested before everything else. No call
+/* The image is not 360 bytes long. Tested before everything else. No call
    without an image returns this. */
 #define BOARDTIME_WRONG_IMAGE_LENGTH 255
 
@@ -218,7 +239,7 @@ uint32_t boardtime_line(uint8_t *image, size_t image_length,
 uint8_t boardtime_pass(uint8_t *image, size_t image_length, uint64_t ticks);
 
 /*
- * The calls that write lines, in libboardtime_uplink.a. Each of the first eight
+ * The calls that write lines, in libboardtime_uplink.a. Each of the first nine
  * writes a command, given as its numbers, as its line: one space between parts,
  * none elsewhere, no leading zero but in a date, no `_`. The line is stored at
  * the front of the output without an LF, and no byte after it is touched.
@@ -287,6 +308,11 @@ uint32_t boardtime_write_waiting(uint8_t *out, size_t out_length);
 uint32_t boardtime_write_window(uint8_t *out, size_t out_length, uint64_t slot,
                                 const struct boardtime_date *start,
                                 const struct boardtime_date *end);
+
+/* `(flight PEER (OUT BACK))`: the peer is 0 to 15, and either time 0 to
+   1000000000 nanoseconds. The two need not be in order. */
+uint32_t boardtime_write_flight(uint8_t *out, size_t out_length, uint64_t peer,
+                                uint64_t out_time, uint64_t back_time);
 
 /*
  * Reads a line, which is given without its LF, and writes its command as the

@@ -50,6 +50,9 @@ pub enum Command {
     /// start. The window holds the first moment of its start's second, and not
     /// that of its end's.
     Window { slot: u64, start: Date, end: Date },
+    /// `(flight PEER (OUT BACK))`: a peer of 0 to 15, and two times of 0 to
+    /// 1000000000 ns, in any order.
+    Flight { peer: u64, out: u64, back: u64 },
 }
 
 impl Command {
@@ -94,6 +97,11 @@ impl Command {
             Command::Read => lines::write_read(out),
             Command::Waiting => lines::write_waiting(out),
             Command::Window { slot, start, end } => lines::write_window(out, slot, &start, &end),
+            Command::Flight {
+                peer,
+                out: out_time,
+                back,
+            } => lines::write_flight(out, peer, out_time, back),
         };
         written(returned, out)
     }

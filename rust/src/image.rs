@@ -3,7 +3,7 @@
 
 pub use crate::returned::Returned;
 
-/// The number that a call returns if the image is not 232 bytes long. Nothing
+/// The number that a call returns if the image is not 360 bytes long. Nothing
 /// is touched then.
 pub const WRONG_LENGTH: u8 = 255;
 

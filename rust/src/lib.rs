@@ -39,7 +39,7 @@ pub use date::Date;
 pub use refusal::Refusal;
 
 /// Length of an image.
-pub const IMAGE_BYTES: usize = 232;
+pub const IMAGE_BYTES: usize = 360;
 
 /// Least length of the output of a call. No answer is longer, and no line that
 /// is written.
@@ -75,7 +75,9 @@ impl Keeper {
     }
 
     /// The keeper of an image that was kept, as over a reset. Any bytes will
-    /// do: those that no keeper can hold count as a keeper not started.
+    /// do: those that no keeper can hold count as a keeper not started. So does
+    /// an image that a library before flight times left, put at the front of
+    /// these bytes: start anew.
     pub const fn from_image(image: [u8; IMAGE_BYTES]) -> Keeper {
         Keeper { image }
     }
@@ -96,6 +98,11 @@ impl Keeper {
     /// given at any moment between two ticks, once all ticks that were counted
     /// are passed. Its edges are such that held the true time when the peer sent
     /// them, as those that the peer's own `(read)` tells.
+    ///
+    /// `(flight PEER (OUT BACK))` sets a peer's flight times, in nanoseconds: a
+    /// request never takes less than OUT to reach the peer, and its reply never
+    /// less than BACK to come back. The bracket of that peer's replies then
+    /// begins BACK later and ends OUT earlier; one left empty is a conflict.
     ///
     /// A numeral of a line has 1 to 19 digits, and the first of two or more is
     /// not 0. It is plain, without any `_`, or grouped, with one `_` between

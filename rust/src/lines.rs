@@ -43,6 +43,13 @@ mod foreign {
             start: *const Date,
             end: *const Date,
         ) -> u32;
+        pub fn boardtime_write_flight(
+            out: *mut u8,
+            out_length: usize,
+            peer: u64,
+            out_time: u64,
+            back_time: u64,
+        ) -> u32;
         pub fn boardtime_plain(
             line: *const u8,
             line_length: usize,
@@ -127,6 +134,14 @@ pub fn write_window(out: &mut [u8], slot: u64, start: &Date, end: &Date) -> Retu
     // aligned. The output is borrowed mutably, so it overlaps no date.
     Returned::from_whole(unsafe {
         foreign::boardtime_write_window(out.as_mut_ptr(), out.len(), slot, start, end)
+    })
+}
+
+/// `(flight PEER (OUT BACK))`. Returns 0, 2 or 10.
+pub fn write_flight(out: &mut [u8], peer: u64, out_time: u64, back_time: u64) -> Returned {
+    // SAFETY: as in `write_start`.
+    Returned::from_whole(unsafe {
+        foreign::boardtime_write_flight(out.as_mut_ptr(), out.len(), peer, out_time, back_time)
     })
 }
 

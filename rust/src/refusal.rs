@@ -18,7 +18,7 @@ pub enum Refusal {
     OwnBoard = 4,
     /// An edge would leave the range of moments, or the ticks their limit.
     Overflow = 5,
-    /// A request to a peer that has one waiting.
+    /// A request to a peer that has one waiting, or flight times for one.
     StillWaiting = 6,
     /// A reply or drop for a peer with none waiting, or a reply with another
     /// tag.
@@ -52,7 +52,7 @@ impl fmt::Display for Refusal {
 impl Error for Refusal {}
 
 /// The result for a number that a call returns, if it has no image or one of
-/// 232 bytes.
+/// 360 bytes.
 pub(crate) fn result(number: u8) -> Result<(), Refusal> {
     match number {
         0 => Ok(()),
