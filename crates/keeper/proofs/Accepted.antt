@@ -25,7 +25,7 @@ use Rattle.command.specs.declared.Command.the-variants as C
 use Rattle.command.proofs.LimitLaws.{board-bound}
 use Rattle.keeper.specs.State.{stateOf, countsAsStarted, mostTicks}
 use Rattle.keeper.specs.Refusals.{waited, replyBracket, replyVerdict, keeperCauses, causes, refusal}
-use Rattle.keeper.specs.Apply.{outcomeOf, changed, passedTo, asked, ended, withFlight, replied, accepted, apply, numberOf}
+use Rattle.keeper.specs.Apply.{outcomeOf, begun, changed, passedTo, asked, ended, withFlight, replied, accepted, apply, numberOf}
 use Rattle.keeper.specs.declared.Keeper.{Keeper}
 use Rattle.keeper.specs.declared.Outcome.{Outcome}
 use Rattle.keeper.specs.declared.Answer.{Answer}
@@ -153,7 +153,7 @@ pub record Moved (k l next : Keeper) : Type 0 where
   pub next-is : l ≡ next
 
 abbrev pub Changed : Answer → Keeper → Keeper → Type 0
-Changed (A.Started board) k l = Unit {0}
+Changed (A.Started board) k l = l ≡ begun (l .board) (l .rule) (l .claim) (l .edges)
 Changed (A.At ticks edges) k l = Moved k l (passedTo k edges ticks)
 Changed (A.Sent peer tag) k l = (peer ≤ 15) × Moved k l (asked k peer)
 Changed (A.Replied peer v) k l = (peer ≤ 15) × Moved k l (ended k peer (v .edges) (conflictsAfter (k .conflicts) (v .finding)))
@@ -166,8 +166,8 @@ Changed (A.Refused n) k l = (n ≡ 0 → ⊥) × (l ≡ k)
 
 module _ (k : Keeper) where
   command-changes : (c : Command) → refusal (stateOf k) c ≡ 0 → Changed (accepted k c .answer) k (accepted k c .keeper)
-  unfolding accepted replied causes ownCauses keeperCauses stateOf
-  command-changes (C.Start board rule claim edges) e = tt
+  unfolding accepted replied begun causes ownCauses keeperCauses stateOf
+  command-changes (C.Start board rule claim edges) e = refl
   command-changes (C.Pass ticks) e = record { started = not-false _ (accepted-none (stateOf k) (C.Pass ticks) e .1 .0); next-is = refl }
   command-changes (C.Request peer) e =
       let c = accepted-none (stateOf k) (C.Request peer) e in

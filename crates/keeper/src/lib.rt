@@ -8,16 +8,14 @@ pub mod calls;
 pub mod number;
 mod refusals;
 mod started;
-mod steps;
+pub mod steps;
 mod windows;
 
 // Of each other board (a peer, 0..15): its bit of `waiting` is set while a request to it waits, with the request's tag and the tick
 // count when it was sent; a peer with none waiting holds 0 for both. Whether or not one waits, a peer has its flight times, out to it and back from
-// it. The order of the fields is the one with which the compiler copies least: the arrays that requests change are one block, those that only a
-// flight changes another, and the small fields stand where they are kept in registers of their own (docs/DECISIONS.md 27).
+// it. The order of the fields is one with which the compiler copies little, in the program and in the library (docs/DECISIONS.md 27 and 73).
 pub struct Keeper {
     pub sent_at: [u64; 16],
-    pub tags: [u32; 16],
     pub requests: u32,
     pub conflicts: u32,
     pub claim: u16,
@@ -25,6 +23,7 @@ pub struct Keeper {
     pub board: u8,
     pub rule: Rule,
     pub started: bool,
+    pub tags: [u32; 16],
     pub edges: Interval,
     pub ticks: u64,
     pub out: [u32; 16],

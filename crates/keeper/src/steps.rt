@@ -22,8 +22,8 @@ pub(crate) fn refused(keeper: Keeper, number: u8) -> Outcome
     Outcome { answer, keeper }
 }
 
-// A keeper at its start: all but what the command sets is as in a fresh one.
-pub(crate) fn begun_with(board: u8, rule: Rule, claim: u16, edges: Interval) -> Keeper
+// A keeper at its start: all but what the command sets is as in a fresh one. Public for the crate `on_image`, which stores one from its own numbers.
+pub fn begun_with(board: u8, rule: Rule, claim: u16, edges: Interval) -> Keeper
     ensures { λ r. ⌜ r ≡ begun board rule claim edges ⌝ }
 {
     Keeper {

@@ -13,7 +13,7 @@ use Rattle.rules.specs.Verdict.{conflictsAfter}
 use Rattle.command.specs.declared.Command.{Command}
 use Rattle.command.specs.declared.Command.the-variants as C
 use Rattle.keeper.specs.State.{fresh, countsAsStarted}
-use Rattle.keeper.specs.Apply.{apply, numberOf, changed, passedTo, asked, ended, withFlight}
+use Rattle.keeper.specs.Apply.{begun, apply, numberOf, changed, passedTo, asked, ended, withFlight}
 use Rattle.keeper.specs.declared.Keeper.{Keeper}
 use Rattle.keeper.specs.declared.Answer.{Answer}
 use Rattle.keeper.specs.declared.Answer.the-variants as A
@@ -73,7 +73,7 @@ module _
 
     stored-left : (a : Answer) (l : Keeper) → Changed a (keeperIn image) l → storedAfter a l image ≡ imageLeft image (numberOf a) l
     unfolding imageLeft passedTo asked changed withFlight
-    stored-left (A.Started board) l h = store-whole image whole l refl
+    stored-left (A.Started board) l h = store-whole image whole (begun (l .board) (l .rule) (l .claim) (l .edges)) refl ∙ ap imageOf (sym h)
     stored-left (A.At ticks edges) l m =
         stored-into m (λ i. passedImage i (l .edges) (l .ticks)) (rw (m .next-is) (passed-image (keeperIn image) tags sent outs backs edges ticks))
     stored-left (A.Sent peer tag) l (small, m) =

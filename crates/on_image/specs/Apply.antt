@@ -6,7 +6,7 @@ use lib.Dec.{eqb}
 use lib.ListN.{length}
 use Rattle.bits.specs.Choice.{choose}
 use Rattle.command.specs.declared.Command.{Command}
-use Rattle.keeper.specs.Apply.{apply, numberOf}
+use Rattle.keeper.specs.Apply.{begun, apply, numberOf}
 use Rattle.keeper.specs.declared.Keeper.{Keeper}
 use Rattle.keeper.specs.declared.Answer.{Answer}
 use Rattle.keeper.specs.declared.Answer.the-variants as A
@@ -23,7 +23,7 @@ imageLeft before number k = choose (eqb number 0) (λ _. imageOf k) (λ _. befor
 -- The image after an answer was given: what the answered command changes is stored, from the keeper that it handed back. It serves the proof of
 -- a private function: what a command leaves, `CommandImage` says.
 abbrev pub storedAfter : Answer → Keeper → List ℕ → List ℕ
-storedAfter (A.Started board) k image = imageAfter image k
+storedAfter (A.Started board) k image = imageAfter image (begun (k .board) (k .rule) (k .claim) (k .edges))
 storedAfter (A.At ticks edges) k image = passedImage image (k .edges) (k .ticks)
 storedAfter (A.Sent peer tag) k image = askedImage image (k .waiting) (k .requests) peer (k .ticks)
 storedAfter (A.Replied peer verdict) k image = endedImage image (k .waiting) (k .edges) (k .conflicts) peer

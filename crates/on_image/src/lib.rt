@@ -10,6 +10,7 @@ use keeper::Answer;
 use keeper::Keeper;
 use keeper::calls::apply_command;
 use keeper::number::number_of;
+use keeper::steps::begun_with;
 use line::write_answer;
 use writing::returned;
 ghost use mathlib.Core.Path.{_≡_};
@@ -25,7 +26,11 @@ fn store_changes(image: &mut [u8], answer: Answer, keeper: Keeper)
 {
     let edges = keeper.edges;
     match answer {
-        Answer::Started(_) => store(image, keeper),
+        // All else of a keeper that was started is as in a fresh one: so of the keeper handed back no array is read here, and none is copied for it.
+        Answer::Started(_) => {
+            let rule = keeper.rule;
+            store(image, begun_with(keeper.board, rule, keeper.claim, edges))
+        }
         Answer::At(_, _) => store_passed(image, edges, keeper.ticks),
         Answer::Sent(peer, _) => {
             store_asked(image, keeper.waiting, keeper.requests, peer, keeper.ticks)

@@ -6,6 +6,9 @@ use Rattle.on_image.proofs.store_changes.Tie as tie
 enum-told : tie.Need-enum-told
 enum-told c = search needs
 
+begun-with-requires : tie.Need-begun-with-requires
+begun-with-requires c κs = search needs
+
 store-requires : tie.Need-store-requires
 store-requires c κs = search needs
 
@@ -55,7 +58,8 @@ same-length : tie.Need-same-length
 same-length c = search needs
 
 returns : tie.Need-returns
-returns c = rw (c .before .before .before .before .enum-told .given .1) (c .before .before .store .ensures)
+returns c =
+    rw (c .before .before .before .before .before .enum-told .given .1, ← c .before .before .before .begun-with .ensures) (c .before .before .store .ensures)
 
 same-length-2 : tie.Need-same-length-2
 same-length-2 c = search needs
@@ -104,6 +108,7 @@ store-changes-spec =
     tie.close
     (tie.spec
     enum-told
+    begun-with-requires
     store-requires
     enum-told-2
     store-passed-requires
