@@ -12,6 +12,16 @@
 #define LAST_TAG 16777215u
 /* Both the last moment and the most ticks. */
 #define LAST_MOMENT 4000000000000000000u
+/* Both the longest out time and the longest back time. */
+#define LAST_FLIGHT 1000000000u
+/* Where the out times and the back times begin in an image. */
+#define OUT_TIMES 232
+#define BACK_TIMES 296
+/* Version of an image, and version and length of one that an older library
+   left. */
+#define VERSION 2
+#define OLDER_VERSION 1
+#define OLDER_BYTES 232
 /* The longest line that has a shape: 19 digits, grouped, in every numeral. */
 #define LONGEST_SHAPE                                             \
     "(start 9_999_999_999_999_999_999 im 9_999_999_999_999_999_999" \
@@ -25,6 +35,8 @@
     "(start 15 mm 50_000 (-4_000_000_000_000_000_000 -3_999_999_999_999_999_999))"
 /* The longest window that is written. */
 #define LONGEST_WINDOW "(window 15 (1900-01-01T00:00:00 2099-12-31T23:59:59))"
+/* The longest flight that is written. */
+#define LONGEST_FLIGHT "(flight 15 (1000000000 1000000000))"
 #define FIRST_DATED INT64_C(-3155673600000000000)
 #define LAST_DATED INT64_C(3155759999999999999)
 
@@ -95,6 +107,12 @@ static int wrote(uint32_t returned, const char *line)
         && memcmp(out, line, strlen(line)) == 0;
 }
 
+/* Whether a line is accepted with this answer. */
+static int answers(const char *line, const char *answer)
+{
+    return wrote(line_of(line, strlen(line), BOARDTIME_OUTPUT_BYTES), answer);
+}
+
 static uint32_t start_of(uint64_t board, uint64_t rule)
 {
     return boardtime_write_start(out, BOARDTIME_OUTPUT_BYTES, board, rule, 200,
@@ -105,6 +123,12 @@ static uint32_t window_of(uint64_t slot, const struct boardtime_date *begin,
                           const struct boardtime_date *end)
 {
     return boardtime_write_window(out, BOARDTIME_OUTPUT_BYTES, slot, begin, end);
+}
+
+static uint32_t flight_of(uint64_t peer, uint64_t out_time, uint64_t back_time)
+{
+    return boardtime_write_flight(out, BOARDTIME_OUTPUT_BYTES, peer, out_time,
+                                  back_time);
 }
 
 /* Whether a date has this moment; one that has none is stored as 0. */
@@ -165,6 +189,29 @@ static void lengths_of_an_image(void)
     refused_image(BOARDTIME_IMAGE_BYTES + 1);
 }
 
+/* An older library's image is refused by its own length, and in front of other
+   bytes it counts as not started, by its version alone. */
+static void versions_of_an_image(void)
+{
+    boardtime_fresh(image, BOARDTIME_IMAGE_BYTES);
+    HOLDS(image[0] == VERSION);
+    start();
+    HOLDS(image[0] == VERSION);
+    image[0] = OLDER_VERSION;
+    HOLDS(OLDER_BYTES < BOARDTIME_IMAGE_BYTES);
+    refused_image(OLDER_BYTES);
+    HELD(BOARDTIME_WRONG_ORDER, number_of("(read)"));
+    HELD(BOARDTIME_WRONG_ORDER, pass_of(1));
+    HOLDS(image[0] == OLDER_VERSION);
+    image[0] = VERSION;
+    HELD(BOARDTIME_ACCEPTED, number_of("(read)"));
+    for (unsigned version = 0; version < 256; version++) {
+        image[0] = (uint8_t)version;
+        HELD(version == VERSION ? BOARDTIME_ACCEPTED : BOARDTIME_WRONG_ORDER,
+             pass_of(1));
+    }
+}
+
 static void lengths_of_an_output(void)
 {
     start();
@@ -185,6 +232,8 @@ static void refused_output(size_t length)
     HELD(BOARDTIME_SHORT_OUTPUT, boardtime_write_read(out, length));
     HELD(BOARDTIME_SHORT_OUTPUT, boardtime_write_waiting(out, length));
     HELD(BOARDTIME_SHORT_OUTPUT, boardtime_write_window(out, length, 16, &none, &first));
+    HELD(BOARDTIME_SHORT_OUTPUT,
+         boardtime_write_flight(out, length, 16, LAST_FLIGHT + 1, LAST_FLIGHT + 1));
     HELD(BOARDTIME_SHORT_OUTPUT,
          boardtime_plain((const uint8_t *)"(pass 12x7)", 11, out, length));
 }
@@ -303,6 +352,51 @@ static void numbers_of_windows(void)
     HELD(BOARDTIME_WRONG_ORDER, number_of(LONGEST_WINDOW));
 }
 
+/* The numbers of a flight in their order; then where its times are in the image,
+   and what they do to the bracket of a reply, which begins the back time later
+   and ends the out time earlier: here from -803079 through -258, then from -500
+   through -500, then from -499 through -500, which holds no moment. */
+static void numbers_of_flights(void)
+{
+    boardtime_fresh(image, BOARDTIME_IMAGE_BYTES);
+    HELD(BOARDTIME_NO_SHAPE, number_of("(flight 16 (-1 1000000001))"));
+    HELD(BOARDTIME_NO_SHAPE, number_of("(flight 4 (0 -1))"));
+    HELD(BOARDTIME_OUTSIDE_RANGE, number_of("(flight 16 (0 0))"));
+    HELD(BOARDTIME_OUTSIDE_RANGE, number_of("(flight 4 (1000000001 0))"));
+    HELD(BOARDTIME_OUTSIDE_RANGE, number_of("(flight 4 (0 1_000_000_001))"));
+    HELD(BOARDTIME_WRONG_ORDER, number_of(LONGEST_FLIGHT));
+    start();
+    HELD(BOARDTIME_OWN_BOARD, number_of("(flight 3 (0 0))"));
+    HOLDS(answers(LONGEST_FLIGHT, "(flight 15)\n"));
+    HOLDS(answers("(flight 4 (258 197121))", "(flight 4)\n"));
+    HOLDS(memcmp(image + OUT_TIMES + 4 * 4, "\2\1\0\0", 4) == 0);
+    HOLDS(memcmp(image + BACK_TIMES + 4 * 4, "\1\2\3\0", 4) == 0);
+    HELD(BOARDTIME_ACCEPTED, number_of("(request 4)"));
+    HELD(BOARDTIME_STILL_WAITING, number_of("(flight 4 (0 0))"));
+    HOLDS(answers("(reply 4 1 (0 0))", "(taken 4 (-1000 -258))\n"));
+    HELD(BOARDTIME_ACCEPTED, number_of("(flight 9 (500000 500200))"));
+    HELD(BOARDTIME_ACCEPTED, number_of("(request 9)"));
+    HOLDS(answers("(reply 9 2 (499500 499500))", "(taken 9 (-500 -500))\n"));
+    start();
+    HELD(BOARDTIME_ACCEPTED, number_of("(flight 9 (500000 500201))"));
+    HELD(BOARDTIME_ACCEPTED, number_of("(request 9)"));
+    HOLDS(answers("(reply 9 1 (499500 499500))", "(conflict 9 (-1000 1000))\n"));
+}
+
+/* Each of the 32 times of a keeper that is handed in, the board's own too. */
+static void flight_times_of_an_image(void)
+{
+    for (size_t at = OUT_TIMES; at < BOARDTIME_IMAGE_BYTES; at += 4) {
+        start();
+        put(at, 4, LAST_FLIGHT);
+        HELD(BOARDTIME_ACCEPTED, pass_of(1));
+        put(at, 4, LAST_FLIGHT + 1);
+        HELD(BOARDTIME_WRONG_ORDER, pass_of(1));
+        put(at, 4, UINT32_MAX);
+        HELD(BOARDTIME_WRONG_ORDER, number_of("(read)"));
+    }
+}
+
 /* States that take too many lines to reach. */
 static void numbers_of_states(void)
 {
@@ -349,6 +443,7 @@ static void numbers_of_written_lines(void)
 {
     size_t length = BOARDTIME_OUTPUT_BYTES;
 
+    HOLDS(strlen(LONGEST_WRITTEN) == 63);
     HOLDS(strlen(LONGEST_WRITTEN) <= BOARDTIME_LINE_BYTES);
     HOLDS(wrote(boardtime_write_start(out, length, 15, BOARDTIME_MM, 50000,
                                       INT64_C(-4000000000000000000),
@@ -374,8 +469,18 @@ static void numbers_of_written_lines(void)
     HELD(BOARDTIME_NO_DATE, window_of(15, &last, &none));
     HELD(BOARDTIME_NO_WINDOW, window_of(15, &last, &first));
     HELD(BOARDTIME_NO_WINDOW, window_of(15, &last, &last));
+    HOLDS(strlen(LONGEST_FLIGHT) <= strlen(LONGEST_WRITTEN));
+    HOLDS(wrote(flight_of(15, LAST_FLIGHT, LAST_FLIGHT), LONGEST_FLIGHT));
+    HOLDS(wrote(flight_of(4, 2000, 30), "(flight 4 (2000 30))"));
+    HELD(BOARDTIME_OUTSIDE_RANGE, flight_of(16, 0, 0));
+    HELD(BOARDTIME_OUTSIDE_RANGE, flight_of(15, LAST_FLIGHT + 1, 0));
+    HELD(BOARDTIME_OUTSIDE_RANGE, flight_of(15, 0, LAST_FLIGHT + 1));
+    /* These end in 32 bits that would be accepted. */
+    HELD(BOARDTIME_OUTSIDE_RANGE, flight_of(15, UINT64_C(1) << 32, 0));
+    HELD(BOARDTIME_OUTSIDE_RANGE, flight_of(15, 0, UINT64_C(1) << 32));
     HOLDS(wrote(plain_of(START_MM), START_MM));
     HOLDS(wrote(plain_of(LONGEST_WINDOW), LONGEST_WINDOW));
+    HOLDS(wrote(plain_of(LONGEST_FLIGHT), LONGEST_FLIGHT));
     HELD(BOARDTIME_NO_SHAPE, plain_of("(pass 12x7)"));
     HELD(BOARDTIME_OUTSIDE_RANGE, plain_of("(pass 86400001)"));
     HELD(BOARDTIME_NO_DATE,
@@ -409,6 +514,7 @@ static void numbers_of_dates(void)
 int main(void)
 {
     lengths_of_an_image();
+    versions_of_an_image();
     lengths_of_an_output();
     lengths_of_a_written_output();
     longest_answer();
@@ -416,6 +522,8 @@ int main(void)
     numbers_of_lines();
     numbers_of_spellings();
     numbers_of_windows();
+    numbers_of_flights();
+    flight_times_of_an_image();
     numbers_of_states();
     numbers_of_passes();
     rules_of_a_start();

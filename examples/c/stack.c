@@ -24,6 +24,7 @@ static size_t line_length;
 static uint64_t ticks;
 static uint64_t board, rule, claim, tag;    /* of a command that is written */
 static int64_t lower, upper;
+static uint64_t out_time, back_time;        /* of a flight that is written */
 static struct boardtime_date from, until;   /* of a window that is written */
 static struct boardtime_date date;          /* of a conversion */
 static int64_t moment;
@@ -56,6 +57,7 @@ NOTED(boardtime_write_drop);
 NOTED(boardtime_write_read);
 NOTED(boardtime_write_waiting);
 NOTED(boardtime_write_window);
+NOTED(boardtime_write_flight);
 NOTED(boardtime_plain);
 NOTED(boardtime_moment_of);
 NOTED(boardtime_date_of);
@@ -117,6 +119,12 @@ static void call_write_window(void)
 {
     returned = noted_boardtime_write_window(out, out_length, board, &from,
                                             &until);
+}
+
+static void call_write_flight(void)
+{
+    returned = noted_boardtime_write_flight(out, out_length, board, out_time,
+                                            back_time);
 }
 
 static void call_plain(void)
@@ -194,6 +202,7 @@ static struct {
     {"boardtime_write_read", call_write_read, BARE, 0, 0},
     {"boardtime_write_waiting", call_write_waiting, BARE, 0, 0},
     {"boardtime_write_window", call_write_window, DATED, 0, 0},
+    {"boardtime_write_flight", call_write_flight, NUMBERED, 0, 0},
 };
 #define WRITERS (sizeof writers / sizeof writers[0])
 
@@ -244,6 +253,11 @@ static void commands(const char *start)
         "(window 15 (1900-01-01T00:00:00 2099-12-31T23:59:59))",
         "(window 15 (2000-01-01T00:00:01 2000-02-29T00:00:00))",
         "(window 15 (1999-12-31T23:59:59 2000-01-01T00:00:00))",
+        "(flight 4 (0 -1))", "(flight 4 (1_000_000_001 0))", "(flight 3 (0 0))",
+        "(flight 4 (1_000_000_000 1000000000))", "(request 4)",
+        "(flight 4 (0 0))", "(reply 4 6 (14_997_000 15_001_000))",
+        "(flight 9 (1000 2000))", "(request 9)",
+        "(reply 9 7 (14997000 15001000))",
     };
 
     begin();
@@ -268,10 +282,12 @@ static void commands_waiting(void)
     answer("(pass 1)");
     pass(1);
     pass(86400001);
-    answer("(reply 0 6 (15000000 18000000))");
+    answer("(flight 14 (0 0))");
+    answer("(reply 0 8 (15000000 18000000))");
     answer("(drop 15)");
+    answer("(flight 15 (1_000_000_000 1_000_000_000))");
     answer("(pass 3600001)");
-    answer("(reply 1 7 (0 0))");
+    answer("(reply 1 9 (0 0))");
 }
 
 /* What lies at the ends of the ranges: an edge that a pass or an adoption would
@@ -303,19 +319,22 @@ static void written(void)
     ticks = 86400000;
     lower = INT64_C(-4000000000000000000), upper = INT64_C(-3999999999999999999);
     from = first, until = last;
+    out_time = back_time = 1000000000;
     write_all();
     from = last;
     write_all();
     until.second = 60;
     write_all();
-    upper = lower - 1;
+    upper = lower - 1, out_time = 1000000001;
     write_all();
     lower = upper = 0;
     claim = tag = UINT64_MAX, ticks = 86400001;
+    out_time = 0, back_time = UINT64_MAX;
     write_all();
     board = 16;
     write_all();
     board = 0, rule = BOARDTIME_IM, claim = 0, tag = 1, ticks = 0;
+    back_time = 0;
     write_all();
     out_length = 0;
     write_all();

@@ -8,18 +8,22 @@
  * whole all the while. At a reset the newer whole copy is taken.
  *
  *   byte of a copy   field
- *   0..231           the image
- *   232..235         check sum: CRC-32 of the image and the number,
+ *   0..359           the image
+ *   360..363         check sum: CRC-32 of the image and the number,
  *                    little-endian
- *   236              number: one more than that of the copy that was newer, or
+ *   364              number: one more than that of the copy that was newer, or
  *                    0 after 255
- *   237..239         unused, so that no line of 16 bytes belongs to both copies
+ *   365..367         unused, so that no line of 16 bytes belongs to both copies
  *
  * A copy is whole if its check sum is right. The number is stored last. While
  * the rest is being stored the copy bears its older number, and the other copy
  * is taken even if a check sum is right by chance; a number that is stored in
  * part does not fit its check sum. Two whole copies are one apart, so that a
  * number of one byte, which begins again at 0, tells which is newer.
+ *
+ * Memory that a store for images of 232 bytes has left has its check sums at
+ * other places. It has no whole copy here, and a fresh keeper is taken: as
+ * boardtime.h says, such an image cannot be gone on with.
  *
  * The ticks. An image that comes back after a reset is that of the last
  * accepted call, and the ticks since then are owed to the keeper: without them
@@ -36,7 +40,7 @@
 
 #include "boardtime.h"
 
-#define STORE_COPY_BYTES 240
+#define STORE_COPY_BYTES 368
 /* Length of the memory that the store takes, from address 0. */
 #define STORE_BYTES (2 * STORE_COPY_BYTES)
 

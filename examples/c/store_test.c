@@ -218,7 +218,8 @@ static void test_rounds(void)
 {
     static const char *const lines[] = {
         "(pass 1)", "(request 4)", "(pass 86400000)", "(request 15)", "(drop 4)",
-        "(read)", "(request 0)", "(drop 15)", "(pass 3)", "(drop 0)",
+        "(read)", "(flight 4 (1000 2000))", "(request 0)", "(drop 15)",
+        "(pass 3)", "(flight 4 (1000000000 0))", "(drop 0)",
     };
     struct store store, found;
 
@@ -322,6 +323,45 @@ static uint32_t crc_of(uint32_t crc, const uint8_t *bytes, size_t count)
     return crc;
 }
 
+#define OLDER_IMAGE_BYTES 232
+#define OLDER_COPY_BYTES 240
+
+/* A whole copy of a store for the images of an older library, of version 1. */
+static void put_older_copy(size_t which, const uint8_t *image, uint8_t number)
+{
+    uint8_t *copy = memory + which * OLDER_COPY_BYTES;
+    uint32_t crc;
+
+    memcpy(copy, image, OLDER_IMAGE_BYTES);
+    copy[0] = 1;
+    crc = ~crc_on(crc_of(~0u, copy, OLDER_IMAGE_BYTES), number);
+    for (size_t i = 0; i < 4; i++)
+        copy[OLDER_IMAGE_BYTES + i] = (uint8_t)(crc >> (8 * i));
+    copy[OLDER_IMAGE_BYTES + 4] = number;
+}
+
+/* Memory that an older store was in: a fresh keeper, also after each cut. */
+static void test_older(void)
+{
+    struct store store, fresh;
+
+    boardtime_fresh(fresh.image, sizeof fresh.image);
+    for (int kind = 0; kind < 4; kind++) {
+        order = kind % ORDERS;
+        memset(memory, 0, sizeof memory);
+        store_open(&store);
+        REQUIRE(answer(&store, START) == BOARDTIME_ACCEPTED);
+        for (size_t i = 0; i < sizeof memory; i++)
+            memory[i] = (uint8_t)(kind == 0 ? 0x00 : kind == 1 ? 0xFF : random_number());
+        put_older_copy(0, store.image, (uint8_t)kind);
+        put_older_copy(1, store.image, (uint8_t)(kind + 1));
+        store_open(&store);
+        REQUIRE(same(&store, &fresh));
+        line = START;
+        try_cuts(&store);
+    }
+}
+
 /* Makes an image whose first 8 bytes, stored over those of a copy, leave the
    copy's check sum right if the copy then bears this number. */
 static void collide_upward(const uint8_t *copy, uint8_t number)
@@ -370,6 +410,7 @@ int main(void)
     test_rounds();
     test_refused();
     test_flips();
+    test_older();
     test_collisions();
     return 0;
 }

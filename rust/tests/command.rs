@@ -20,7 +20,7 @@ const LAST: Date = date(2099, 12, 31, [23, 59, 59]);
 const NO_DATE: Date = date(1900, 2, 29, [0, 0, 0]);
 
 /// Every form, with numbers that differ, so that none can stand for another.
-const COMMANDS: [(Command, &str); 10] = [
+const COMMANDS: [(Command, &str); 13] = [
     (START, "(start 3 im 200 (-1000 1000))"),
     (
         Command::Start {
@@ -58,11 +58,17 @@ const COMMANDS: [(Command, &str); 10] = [
         window(15, FIRST, LAST),
         "(window 15 (1900-01-01T00:00:00 2099-12-31T23:59:59))",
     ),
+    (flight(12, 3456, 789), "(flight 12 (3456 789))"),
+    (
+        flight(15, 999_999_999, 1_000_000_000),
+        "(flight 15 (999999999 1000000000))",
+    ),
+    (flight(0, 1_000_000_000, 0), "(flight 0 (1000000000 0))"),
 ];
 
 /// Grouped numerals at every place whose range has some, also beside plain ones,
 /// each line with its plain spelling.
-const GROUPED: [(&str, &str); 5] = [
+const GROUPED: [(&str, &str); 7] = [
     (
         "(start 15 mm 50_000 (-4_000_000_000_000_000_000 -3_999_999_999_999_999_999))",
         "(start 15 mm 50000 (-4000000000000000000 -3999999999999999999))",
@@ -77,6 +83,11 @@ const GROUPED: [(&str, &str); 5] = [
         "(reply 15 16777215 (-12345 123456))",
     ),
     ("(reply 4 1000 (0 1_000_000))", "(reply 4 1000 (0 1000000))"),
+    (
+        "(flight 15 (1_000_000_000 999_999_999))",
+        "(flight 15 (1000000000 999999999))",
+    ),
+    ("(flight 4 (1000 2_000))", "(flight 4 (1000 2000))"),
 ];
 
 /// The ticks of a pass, or an edge, that are no numerals: not every group has
@@ -107,9 +118,25 @@ const NO_EDGES: [&str; 6] = [
     "-10_000_000_000_000_000_000",
 ];
 
+/// Flight times with a '-', which only an edge may have, or with what is no
+/// numeral, and lines without the brackets or the parts of a flight.
+const NO_FLIGHTS: [&str; 11] = [
+    "(flight 4 (-1 0))",
+    "(flight 4 (0 -1))",
+    "(flight 4 (-1000 -2000))",
+    "(flight 4 (-1_000 2000))",
+    "(flight 4 (-0 0))",
+    "(flight -4 (0 0))",
+    "(flight 4 (0 12_7))",
+    "(flight 4 0 0)",
+    "(flight 4 (0))",
+    "(flight 4 (0 0)",
+    "(flight 4)",
+];
+
 /// Each has one number that is the first refused, or one that would be accepted
 /// if it were cut short, or edges in the wrong order.
-const REFUSED: [Command; 16] = [
+const REFUSED: [Command; 23] = [
     start(16, 0, 0, 0),
     start(256, 0, 0, 0),
     start(0, 50_001, 0, 0),
@@ -127,6 +154,13 @@ const REFUSED: [Command; 16] = [
     // The slot comes before the dates and their order.
     window(16, NO_DATE, LAST),
     window(256, LAST, FIRST),
+    flight(16, 0, 0),
+    flight(256, 0, 0),
+    flight(0, 1_000_000_001, 0),
+    flight(0, 1 << 32, 0),
+    flight(0, 0, 1_000_000_001),
+    flight(0, 0, 1 << 32),
+    flight(0, u64::MAX, u64::MAX),
 ];
 
 /// Windows with a slot in its range that are refused all the same. That a date
@@ -167,6 +201,10 @@ const fn reply(peer: u64, tag: u64, leading: i64) -> Command {
 
 const fn window(slot: u64, start: Date, end: Date) -> Command {
     Command::Window { slot, start, end }
+}
+
+const fn flight(peer: u64, out: u64, back: u64) -> Command {
+    Command::Flight { peer, out, back }
 }
 
 const fn date(year: u64, month: u64, day: u64, [hour, minute, second]: [u64; 3]) -> Date {
@@ -224,6 +262,16 @@ fn what_is_no_numeral_is_not_read() {
     }
 }
 
+#[test]
+fn what_is_no_flight_is_not_read() {
+    for line in NO_FLIGHTS {
+        let mut out = [UNTOUCHED; OUTPUT_BYTES];
+        let refused = plain(line.as_bytes(), &mut out);
+        assert_eq!(refused, Err(Refusal::NoShape), "{line}");
+        assert_eq!(out, [UNTOUCHED; OUTPUT_BYTES], "{line}");
+    }
+}
+
 /// Each is a numeral, so that its range is asked.
 #[test]
 fn grouped_numerals_outside_their_ranges_are_refused() {
@@ -238,6 +286,9 @@ fn grouped_numerals_outside_their_ranges_are_refused() {
         "(reply 4 1 (0 4_000_000_000_000_000_001))",
         "(drop 9_999_999_999_999_999_999)",
         "(window 1_000 (2000-01-01T00:00:00 2001-01-01T00:00:00))",
+        "(flight 1_000 (0 0))",
+        "(flight 4 (1_000_000_001 0))",
+        "(flight 4 (0 1_000_000_001))",
     ] {
         let refused = plain(line.as_bytes(), &mut out);
         assert_eq!(refused, Err(Refusal::OutsideRange), "{line}");
@@ -299,6 +350,9 @@ fn lines_that_cannot_be_read_are_refused() {
             "(window 15 (2000-02-29T00:00:00 2000-02-29T00:00:00))",
             Refusal::NoWindow,
         ),
+        ("(flight 4 (0 0)) ", Refusal::NoShape),
+        ("(flight 4 (1000000000 1000000001))", Refusal::OutsideRange),
+        ("(flight 16 (-1 1000000001))", Refusal::NoShape),
     ] {
         assert_eq!(plain(line.as_bytes(), &mut out), Err(refusal), "{line}");
         assert_eq!(out, [UNTOUCHED; OUTPUT_BYTES]);
@@ -338,6 +392,12 @@ fn written_lines_are_answered() {
             "(time (9997000 11001200) (10499100 502100) 0 0)\n",
         ),
         (window(7, FIRST, LAST), "(open 7)\n"),
+        (flight(4, 1000, 2000), "(flight 4)\n"),
+        (flight(3, 1000, 2000), "(no 4)\n"),
+        (Command::Request { peer: 4 }, "(sent 4 2)\n"),
+        (flight(4, 0, 0), "(no 6)\n"),
+        (Command::Drop { peer: 4 }, "(dropped 4)\n"),
+        (flight(4, 0, 0), "(flight 4)\n"),
     ] {
         let mut line = [0; OUTPUT_BYTES];
         let mut out = [0; OUTPUT_BYTES];

@@ -45,7 +45,7 @@ fn constants_are_those_of_the_header() {
 /// Each declaration of the header beside the one that Rust calls by. A type
 /// that is too narrow in one of them need not show in any call: what is in the
 /// rest of a register is left open.
-const DECLARATIONS: [(&str, &str); 14] = [
+const DECLARATIONS: [(&str, &str); 15] = [
     (
         "uint8_t boardtime_fresh(uint8_t *image, size_t image_length);",
         "pub fn boardtime_fresh(image: *mut u8, image_length: usize) -> u8;",
@@ -97,6 +97,12 @@ const DECLARATIONS: [(&str, &str); 14] = [
          const struct boardtime_date *start, const struct boardtime_date *end);",
         "pub fn boardtime_write_window( out: *mut u8, out_length: usize, slot: u64, \
          start: *const Date, end: *const Date, ) -> u32;",
+    ),
+    (
+        "uint32_t boardtime_write_flight(uint8_t *out, size_t out_length, uint64_t peer, \
+         uint64_t out_time, uint64_t back_time);",
+        "pub fn boardtime_write_flight( out: *mut u8, out_length: usize, peer: u64, \
+         out_time: u64, back_time: u64, ) -> u32;",
     ),
     (
         "uint32_t boardtime_plain(const uint8_t *line, size_t line_length, \

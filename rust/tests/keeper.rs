@@ -5,6 +5,15 @@ use boardtime::{image, Keeper, Refusal, IMAGE_BYTES, OUTPUT_BYTES};
 
 const UNTOUCHED: u8 = 0xA5;
 
+/// The length and the version of an image before flight times.
+const OLDER_BYTES: usize = 232;
+const OLDER_VERSION: u8 = 1;
+
+/// Where the out times and the back times begin in an image.
+const OUT_TIMES: usize = 232;
+const BACK_TIMES: usize = 296;
+const LAST_FLIGHT: u32 = 1_000_000_000;
+
 fn answered(keeper: &mut Keeper, line: &str) -> (u8, String) {
     let mut out = [UNTOUCHED; OUTPUT_BYTES];
     let answer = keeper.answer(line.as_bytes(), &mut out);
@@ -24,7 +33,7 @@ fn started() -> Keeper {
 #[test]
 fn fresh_image() {
     let mut image = [0; IMAGE_BYTES];
-    image[0] = 1;
+    image[0] = 2;
     assert_eq!(*Keeper::fresh().image(), image);
     assert_eq!(Keeper::default(), Keeper::fresh());
 }
@@ -32,7 +41,7 @@ fn fresh_image() {
 #[test]
 fn started_image() {
     let mut image = [0; IMAGE_BYTES];
-    image[..4].copy_from_slice(&[1, 1, 3, 0]);
+    image[..4].copy_from_slice(&[2, 1, 3, 0]);
     image[4..6].copy_from_slice(&200_u16.to_le_bytes());
     image[8..16].copy_from_slice(&(-1000_i64).to_le_bytes());
     image[16..24].copy_from_slice(&1000_i64.to_le_bytes());
@@ -88,6 +97,8 @@ fn grouped_numerals_are_answered_as_plain_ones() {
             0,
             "(taken 4 (12338999000 12350000000))\n",
         ),
+        ("(flight 4 (1_000 1_000_000_000))", 0, "(flight 4)\n"),
+        ("(flight 4 (1_000 1_000_000_001))", 2, "(no 2)\n"),
     ] {
         let expected = (number, answer.into());
         assert_eq!(answered(&mut grouped, line), expected);
@@ -112,6 +123,161 @@ fn waiting_peers_are_listed_by_tag() {
     }
 }
 
+/// The bracket of peer 4 begins at TRAILING - 1000200 + 2000 and ends at
+/// LEADING + 1000200 w - 1000. Its times stay when a request ends, and the other
+/// peers have none.
+#[test]
+fn flight_times_narrow_a_bracket() {
+    let mut keeper = started();
+    for (line, number, answer) in [
+        ("(pass 10)", 0, "(at 10 (9997000 10003000))\n"),
+        ("(flight 4 (1000 2000))", 0, "(flight 4)\n"),
+        ("(request 4)", 0, "(sent 4 1)\n"),
+        ("(flight 4 (0 0))", 6, "(no 6)\n"),
+        ("(pass 5)", 0, "(at 15 (14996000 15004000))\n"),
+        // From 9000800 through 15001000.
+        (
+            "(reply 4 1 (9999000 10001000))",
+            0,
+            "(taken 4 (14996000 15001000))\n",
+        ),
+        ("(request 4)", 0, "(sent 4 2)\n"),
+        // From 14997000 through 15994200.
+        (
+            "(reply 4 2 (15995200 15995200))",
+            0,
+            "(taken 4 (14997000 15001000))\n",
+        ),
+        ("(request 9)", 0, "(sent 9 3)\n"),
+        // From 14997300 through 15997500.
+        (
+            "(reply 9 3 (15997500 15997500))",
+            0,
+            "(taken 9 (14997300 15001000))\n",
+        ),
+        ("(request 4)", 0, "(sent 4 4)\n"),
+        ("(drop 4)", 0, "(dropped 4)\n"),
+        ("(request 4)", 0, "(sent 4 5)\n"),
+        // From 14002799 through 14999999.
+        (
+            "(reply 4 5 (15000999 15000999))",
+            0,
+            "(taken 4 (14997300 14999999))\n",
+        ),
+    ] {
+        assert_eq!(answered(&mut keeper, line), (number, answer.into()));
+    }
+}
+
+/// A reply of 1000200 alone has a bracket from BACK through 1000200 - OUT: with
+/// the first times it holds the moment 0 and no other, with the second none.
+#[test]
+fn an_empty_bracket_is_a_conflict() {
+    for (start, first) in [
+        ("(start 3 im 200 (-1000 1000))", "(taken 4 (0 0))\n"),
+        ("(start 3 mm 200 (-1000 1000))", "(kept 4 (-1000 1000))\n"),
+    ] {
+        for (flight, expected) in [
+            ("(flight 4 (1000200 0))", first),
+            ("(flight 4 (1000200 1))", "(conflict 4 (-1000 1000))\n"),
+        ] {
+            let mut keeper = Keeper::fresh();
+            for line in [start, flight, "(request 4)"] {
+                assert_eq!(answered(&mut keeper, line).0, 0);
+            }
+            let answer = answered(&mut keeper, "(reply 4 1 (1000200 1000200))");
+            assert_eq!(answer, (0, expected.into()), "{start} {flight}");
+        }
+    }
+}
+
+/// Under mm a reply moves outward by 1000200, whatever the flight times are.
+#[test]
+fn flight_times_leave_an_adoption_as_it_is() {
+    for flight in ["(flight 4 (0 0))", "(flight 4 (1000 2000))"] {
+        let mut keeper = Keeper::fresh();
+        for line in ["(start 3 mm 200 (-2000000 2000000))", flight, "(request 4)"] {
+            assert_eq!(answered(&mut keeper, line).0, 0);
+        }
+        assert_eq!(
+            answered(&mut keeper, "(reply 4 1 (-500 500))"),
+            (0, "(taken 4 (-1000700 1000700))\n".into())
+        );
+    }
+}
+
+#[test]
+fn flight_times_have_their_places_in_the_image() {
+    let mut keeper = started();
+    let mut image = *keeper.image();
+    for (peer, out, back) in [(4, 1000, 2000), (0, LAST_FLIGHT, 7), (15, 8, LAST_FLIGHT)] {
+        let line = format!("(flight {peer} ({out} {back}))");
+        let answer = format!("(flight {peer})\n");
+        assert_eq!(answered(&mut keeper, &line), (0, answer));
+        put(&mut image, OUT_TIMES + 4 * peer, out);
+        put(&mut image, BACK_TIMES + 4 * peer, back);
+        assert_eq!(*keeper.image(), image);
+    }
+}
+
+fn put(image: &mut [u8; IMAGE_BYTES], at: usize, number: u32) {
+    image[at..at + 4].copy_from_slice(&number.to_le_bytes());
+}
+
+/// Each of the 32 times, the board's own too.
+#[test]
+fn keepers_with_longer_flight_times_are_not_started() {
+    for peer in 0..16 {
+        for at in [OUT_TIMES + 4 * peer, BACK_TIMES + 4 * peer] {
+            let mut image = *started().image();
+            put(&mut image, at, LAST_FLIGHT);
+            assert_eq!(Keeper::from_image(image).pass(1), Ok(()), "{at}");
+            put(&mut image, at, LAST_FLIGHT + 1);
+            let refused = Keeper::from_image(image).pass(1);
+            assert_eq!(refused, Err(Refusal::WrongOrder), "{at}");
+        }
+    }
+}
+
+/// A number outside its range comes before a missing start and before a request
+/// that waits.
+#[test]
+fn refused_flights_leave_the_keeper_as_it_was() {
+    let mut waiting = started();
+    assert_eq!(answered(&mut waiting, "(flight 4 (5 6))").0, 0);
+    assert_eq!(answered(&mut waiting, "(request 4)").0, 0);
+    for (mut keeper, line, number) in [
+        (Keeper::fresh(), "(flight 16 (-1 0))", 1),
+        (Keeper::fresh(), "(flight 16 (0 0))", 2),
+        (Keeper::fresh(), "(flight 4 (0 1000000001))", 2),
+        (Keeper::fresh(), "(flight 4 (1000000000 0))", 3),
+        (waiting.clone(), "(flight 4 (1000000001 0))", 2),
+        (waiting.clone(), "(flight 3 (0 0))", 4),
+        (waiting.clone(), "(flight 4 (0 0))", 6),
+    ] {
+        let before = keeper.clone();
+        let answer = format!("(no {number})\n");
+        assert_eq!(answered(&mut keeper, line), (number, answer), "{line}");
+        assert_eq!(keeper, before, "{line}");
+    }
+}
+
+/// Whatever is in the bytes of a keeper that has not started: also where its
+/// version, started flag and rule can be read.
+#[test]
+fn a_start_sets_every_byte() {
+    for byte in [0, 1, UNTOUCHED, 0xFF] {
+        for front in [[byte; 4], [2, 0, 5, 1]] {
+            let mut image = [byte; IMAGE_BYTES];
+            image[..4].copy_from_slice(&front);
+            let mut keeper = Keeper::from_image(image);
+            let start = "(start 3 im 200 (-1000 1000))";
+            assert_eq!(answered(&mut keeper, start), (0, "(started 3)\n".into()));
+            assert_eq!(keeper, started());
+        }
+    }
+}
+
 #[test]
 fn what_is_no_numeral_is_not_answered() {
     let mut keeper = started();
@@ -127,6 +293,8 @@ fn what_is_no_numeral_is_not_answered() {
         "(reply 4 1_ (0 0))",
         "(reply 4 1 (-_100 0))",
         "(window 0 (2_000-01-01T00:00:00 2001-01-01T00:00:00))",
+        "(flight 4 (100_ 0))",
+        "(flight 4 (0 -1))",
     ] {
         assert_eq!(answered(&mut keeper, line), (1, "(no 1)\n".into()));
         assert_eq!(keeper, before);
@@ -145,7 +313,7 @@ fn kept_image_goes_on() {
 
 #[test]
 fn any_bytes_are_a_keeper() {
-    for byte in [0, 1, 0xFF] {
+    for byte in [0, 1, 2, 0xFF] {
         let mut keeper = Keeper::from_image([byte; IMAGE_BYTES]);
         assert_eq!(keeper.pass(1), Err(Refusal::WrongOrder));
         assert_eq!(*keeper.image(), [byte; IMAGE_BYTES]);
@@ -279,10 +447,36 @@ fn windows_leave_the_keeper_as_it_was() {
     }
 }
 
+/// It is refused for its length, and with more bytes behind it, it counts as not
+/// started.
+#[test]
+fn images_of_an_older_library() {
+    let mut older: [u8; OLDER_BYTES] = started().image()[..OLDER_BYTES]
+        .try_into()
+        .expect("a part of this length");
+    older[0] = OLDER_VERSION;
+    let mut bytes = older;
+    let mut out = [UNTOUCHED; OUTPUT_BYTES];
+    assert_eq!(image::pass(&mut bytes, 1), image::WRONG_LENGTH);
+    let returned = image::line(&mut bytes, b"(read)", &mut out);
+    assert_eq!(returned.number, image::WRONG_LENGTH);
+    assert_eq!((bytes, out), (older, [UNTOUCHED; OUTPUT_BYTES]));
+
+    let mut image = [0; IMAGE_BYTES];
+    image[..OLDER_BYTES].copy_from_slice(&older);
+    let mut keeper = Keeper::from_image(image);
+    assert_eq!(keeper.pass(1), Err(Refusal::WrongOrder));
+    assert_eq!(answered(&mut keeper, "(read)"), (3, "(no 3)\n".into()));
+    assert_eq!(*keeper.image(), image);
+    // By its version alone.
+    image[0] = 2;
+    assert_eq!(Keeper::from_image(image).pass(1), Ok(()));
+}
+
 #[test]
 fn images_of_other_lengths() {
     let mut out = [UNTOUCHED; OUTPUT_BYTES];
-    for length in [0, 1, IMAGE_BYTES - 1, IMAGE_BYTES + 1] {
+    for length in [0, 1, OLDER_BYTES, IMAGE_BYTES - 1, IMAGE_BYTES + 1] {
         let mut bytes = vec![UNTOUCHED; length];
         assert_eq!(image::fresh(&mut bytes), image::WRONG_LENGTH);
         assert_eq!(image::pass(&mut bytes, 1), image::WRONG_LENGTH);
