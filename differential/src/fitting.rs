@@ -6,8 +6,8 @@ use independent::Keeper;
 use crate::date::Date;
 use crate::lent::LONGEST;
 use crate::limits::{
-    Image, FIRST_DATED, LAST_CLAIM, LAST_DATED, LAST_MOMENT, LAST_PASS, LAST_TAG, LAST_WAIT, PEERS,
-    SECOND, SHORTEST_OUTPUT, SLOTS,
+    Image, FIRST_DATED, LAST_CLAIM, LAST_DATED, LAST_FLIGHT, LAST_MOMENT, LAST_PASS, LAST_TAG,
+    LAST_WAIT, PEERS, SECOND, SHORTEST_OUTPUT, SLOTS,
 };
 use crate::random::Random;
 use crate::spelling;
@@ -22,13 +22,14 @@ pub fn line(random: &mut Random, image: &Image) -> Vec<u8> {
         start(random)
     } else {
         match random.below(100) {
-            0..=22 => pass(random, &keeper),
-            23..=46 => request(random, &keeper),
-            47..=80 => reply(random, &keeper),
-            81..=85 => format!("(drop {})", peer(random, &keeper)),
-            86..=89 => "(read)".into(),
-            90..=91 => "(waiting)".into(),
-            92..=98 => window(random, &keeper),
+            0..=20 => pass(random, &keeper),
+            21..=43 => request(random, &keeper),
+            44..=77 => reply(random, &keeper),
+            78..=82 => format!("(drop {})", peer(random, &keeper)),
+            83..=85 => "(read)".into(),
+            86..=87 => "(waiting)".into(),
+            88..=93 => window(random, &keeper),
+            94..=98 => flight(random, &keeper),
             _ => start(random),
         }
     };
@@ -153,32 +154,47 @@ fn replied_edges(random: &mut Random, keeper: &Keeper, peer: usize) -> (i128, i1
     // edges only have to be some numbers.
     let moved = i128::from(waited.min(u64::from(LAST_TAG))) * tick;
     let outward = moved + tick;
+    let out = i128::from(keeper.out_times[peer % PEERS]);
+    let back = i128::from(keeper.back_times[peer % PEERS]);
     let (lower, upper) = (i128::from(keeper.lower), i128::from(keeper.upper));
     let width = upper.saturating_sub(lower).max(0);
     let by_one = i128::from(random.between(-1, 1));
     let some = some_width(random);
-    let (trailing, leading) = match random.below(10) {
+    // The least width of a reply whose bracket holds a moment.
+    let not_empty = (out + back - outward).max(0);
+    let (trailing, leading) = match random.below(11) {
         // Within the own edges.
         0..=1 => (lower + some % (width + 1), upper),
         // The bracket begins at, just before or just after the upper edge.
-        2 => (upper + tick + by_one, upper + tick + by_one + some),
+        2 => {
+            let trailing = upper + tick - back + by_one;
+            (trailing, trailing + not_empty + some)
+        }
         // The bracket ends at, just before or just after the lower edge.
-        3 => (lower - moved + by_one - some, lower - moved + by_one),
+        3 => {
+            let leading = lower - moved + out + by_one;
+            (leading - not_empty - some, leading)
+        }
         // As wide as the own edges when moved outward, or one more or less.
         4..=5 => {
             let trailing = lower - by_one + some % (width + 1);
             (trailing, trailing + width - 2 * outward + by_one)
         }
-        // Adoption takes an edge to the end of the range, or one past it.
+        // The bracket holds one moment, two or none, if the times are long enough.
         6 => {
+            let trailing = lower + tick - back + some % (width + 1);
+            (trailing, trailing + out + back - outward + by_one)
+        }
+        // Adoption takes an edge to the end of the range, or one past it.
+        7 => {
             let trailing = outward + by_one - i128::from(LAST_MOMENT);
             (trailing, trailing + some % (width - 2 * outward).max(1))
         }
-        7 => {
+        8 => {
             let leading = i128::from(LAST_MOMENT) - outward + by_one;
             (leading - some % (width - 2 * outward).max(1), leading)
         }
-        8 => (lower - some, upper + some),
+        9 => (lower - some, upper + some),
         _ => (lower + some, upper - some),
     };
     ordered_in_range(random, trailing, leading)
@@ -230,6 +246,37 @@ fn date(random: &mut Random, keeper: &Keeper) -> Date {
         return date.with(random.place(6), random.pick(&[0, 13, 31, 60, 99]));
     }
     date
+}
+
+/// Mostly for a peer that does not wait, with times in their range.
+fn flight(random: &mut Random, keeper: &Keeper) -> String {
+    let first = random.place(PEERS);
+    let peer = match random.below(20) {
+        0 => usize::from(keeper.board),
+        1..=3 => peer(random, keeper),
+        _ => (first..first + PEERS)
+            .map(|peer| peer % PEERS)
+            .find(|&peer| keeper.waiting >> peer & 1 == 0)
+            .unwrap_or(first),
+    };
+    let [out, back] = [(); 2].map(|()| flight_time(random, keeper));
+    format!("(flight {peer} ({out} {back}))")
+}
+
+/// Mostly so short that a bracket of a tick or two holds a moment.
+fn flight_time(random: &mut Random, keeper: &Keeper) -> i128 {
+    let last = i64::from(LAST_FLIGHT);
+    let some = match random.below(32) {
+        0..=7 => 0,
+        8..=15 => random.between(1, 1000),
+        16..=23 => random.between(1000, 500_000),
+        24..=26 => return longest_tick(keeper) + i128::from(random.between(-1, 1)),
+        27 => random.between(0, 20 * 1_000_000),
+        28..=29 => random.between(0, last),
+        30 => last - random.between(0, 1),
+        _ => last + random.between(0, 1),
+    };
+    i128::from(some)
 }
 
 fn longest_tick(keeper: &Keeper) -> i128 {

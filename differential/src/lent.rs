@@ -1,7 +1,7 @@
 //! Buffers that are lent to a call, between guard bytes that it must not touch.
 
 /// The most bytes that a test lends in one buffer.
-pub const LONGEST: usize = 300;
+pub const LONGEST: usize = 400;
 
 const GUARD: usize = 64;
 /// A buffer may begin at any of this many places, so that calls meet addresses

@@ -20,6 +20,7 @@ mod limits;
 mod listing;
 mod program;
 mod random;
+mod shifting;
 mod spelling;
 mod tally;
 mod test;

@@ -6,6 +6,7 @@ use crate::convert::ConvertTally;
 use crate::limits::LAST_PASS;
 use crate::listing::ListTally;
 use crate::program::ProgramTally;
+use crate::shifting::ShiftTally;
 use crate::spelling::SpellingTally;
 use crate::touching::TouchTally;
 use crate::write::WriteTally;
@@ -20,7 +21,7 @@ const FRESH_NUMBERS: [u8; 2] = [0, 255];
 
 /// Each command with the numbers, but 10 and 255, that it can be given. A line
 /// with number 1 is no command but may begin like one.
-const COMMANDS: [(&str, &[u8]); 8] = [
+const COMMANDS: [(&str, &[u8]); 9] = [
     ("start", &[0, 1, 2, 3]),
     ("pass", &[0, 1, 2, 3, 5]),
     ("request", &[0, 1, 2, 3, 4, 6, 9]),
@@ -29,12 +30,13 @@ const COMMANDS: [(&str, &[u8]); 8] = [
     ("read", &[0, 1, 3]),
     ("waiting", &[0, 1, 3]),
     ("window", &[0, 1, 2, 3, 11, 12]),
+    ("flight", &[0, 1, 2, 3, 4, 6]),
 ];
 
 /// The words of the answers to accepted lines.
-const ANSWERS: [&str; 12] = [
+const ANSWERS: [&str; 13] = [
     "started", "at", "sent", "taken", "kept", "conflict", "dropped", "time", "waiting", "open",
-    "shut", "unsure",
+    "shut", "unsure", "flight",
 ];
 
 /// Widths that a number could be cut to.
@@ -56,6 +58,7 @@ pub struct Tally {
     pub touching: TouchTally,
     pub bracketing: BracketTally,
     pub listing: ListTally,
+    pub shifting: ShiftTally,
     pub conversions: ConvertTally,
     pub writes: WriteTally,
     pub program: ProgramTally,
@@ -75,6 +78,7 @@ impl Tally {
             touching: TouchTally::default(),
             bracketing: BracketTally::default(),
             listing: ListTally::default(),
+            shifting: ShiftTally::default(),
             conversions: ConvertTally::new(),
             writes: WriteTally::new(),
             program: ProgramTally::new(),
@@ -161,6 +165,7 @@ impl Tally {
         self.touching.print();
         self.bracketing.print();
         self.listing.print();
+        self.shifting.print();
         self.program.print();
     }
 
@@ -190,6 +195,7 @@ impl Tally {
         missing.extend(self.touching.missing(ENOUGH));
         missing.extend(self.bracketing.missing(ENOUGH));
         missing.extend(self.listing.missing(ENOUGH));
+        missing.extend(self.shifting.missing(ENOUGH));
         missing.extend(self.conversions.missing(ENOUGH));
         missing.extend(self.writes.missing(ENOUGH));
         missing.extend(self.program.missing(ENOUGH));

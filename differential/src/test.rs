@@ -6,6 +6,7 @@ use std::process;
 use boardtime::image as library;
 
 use crate::lent::{Lent, Pattern, PLACES, WHOLE};
+use crate::limits::SHORTEST_OUTPUT;
 use crate::program::Program;
 use crate::random::Random;
 use crate::tally::Tally;
@@ -72,13 +73,25 @@ impl Test {
     /// Gives both sides a line, and the same line to be written back. `image`
     /// becomes what they leave.
     pub fn line(&mut self, image: &mut [u8], line: &[u8], out_length: usize) -> Returned {
+        self.line_outcome(image, line, out_length).library_returned
+    }
+
+    /// The same with an output of the least length. Its number is returned, and
+    /// the answer.
+    pub fn answer(&mut self, image: &mut [u8], line: &[u8]) -> (u8, Vec<u8>) {
+        let outcome = self.line_outcome(image, line, SHORTEST_OUTPUT);
+        let Returned { number, length } = outcome.library_returned;
+        (number, outcome.library.out.bytes()[..length].to_vec())
+    }
+
+    fn line_outcome(&mut self, image: &mut [u8], line: &[u8], out_length: usize) -> Outcome {
         let outcome = self.call(image, Call::Line { line, out_length });
         let returned = outcome.library_returned;
         let answer = &outcome.library.out.bytes()[..returned.length];
         self.tally.line(line, returned.number, answer);
         let before = &outcome.before;
         self.plain(&before.line, &before.out, written_back(returned.number));
-        returned
+        outcome
     }
 
     /// Gives both sides a pass by number.
@@ -153,6 +166,14 @@ impl Test {
     pub fn case_in_words(&self) -> String {
         let (kind, case) = self.tally.kind();
         format!("seed {}, case {case} of kind '{kind}'", self.seed)
+    }
+
+    /// Ends the test where both sides do the same with a line, and it is wrong.
+    pub fn mismatch(&self, difference: &str, line: &str) -> ! {
+        println!("MISMATCH: {difference}");
+        println!("{}", self.case_in_words());
+        println!("line: `{}`", line.escape_default());
+        process::exit(1);
     }
 
     fn report(&self, difference: &str, call: Call, outcome: &Outcome) {

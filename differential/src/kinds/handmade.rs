@@ -5,7 +5,8 @@ use independent::{Keeper, Rule};
 
 use crate::fitting;
 use crate::limits::{
-    Image, IMAGE_LENGTH, LAST_CLAIM, LAST_MOMENT, LAST_PASS, LAST_TAG, LAST_TICKS, PEERS,
+    Image, IMAGE_LENGTH, LAST_CLAIM, LAST_FLIGHT, LAST_MOMENT, LAST_PASS, LAST_TAG, LAST_TICKS,
+    PEERS, VERSION,
 };
 use crate::random::Random;
 use crate::test::Test;
@@ -77,6 +78,18 @@ const CHANGES: &[Change] = &[
     |keeper| keeper.waiting = u16::MAX,
     |keeper| all_wait(keeper, PEERS - 1),
     |keeper| all_wait(keeper, PEERS),
+    |keeper| keeper.out_times[4] = LAST_FLIGHT,
+    |keeper| keeper.out_times[4] = LAST_FLIGHT + 1,
+    |keeper| keeper.back_times[4] = LAST_FLIGHT,
+    |keeper| keeper.back_times[4] = LAST_FLIGHT + 1,
+    |keeper| keeper.out_times[15] = u32::MAX,
+    |keeper| keeper.back_times[15] = u32::MAX,
+    |keeper| keeper.out_times[3] = LAST_FLIGHT,
+    |keeper| keeper.out_times[3] = LAST_FLIGHT + 1,
+    |keeper| keeper.back_times[3] = LAST_FLIGHT,
+    |keeper| keeper.back_times[3] = LAST_FLIGHT + 1,
+    |keeper| (keeper.out_times, keeper.back_times) = ([0; PEERS], [0; PEERS]),
+    |keeper| (keeper.out_times, keeper.back_times) = ([LAST_FLIGHT; PEERS], [LAST_FLIGHT; PEERS]),
     |keeper| *keeper = Keeper::fresh(),
 ];
 
@@ -90,7 +103,16 @@ pub fn run(test: &mut Test) {
         give(test, &mut random, image);
     }
     // What a keeper's fields cannot spell: versions, flags and rules.
-    for (at, value) in [(0, 0), (0, 2), (0, 255), (1, 2), (1, 255), (3, 2), (3, 255)] {
+    for (at, value) in [
+        (0, 0),
+        (0, VERSION - 1),
+        (0, VERSION + 1),
+        (0, 255),
+        (1, 2),
+        (1, 255),
+        (3, 2),
+        (3, 255),
+    ] {
         let mut image = [0; IMAGE_LENGTH];
         waiting_keeper().to_image(&mut image);
         image[at] = value;
@@ -111,7 +133,8 @@ fn give(test: &mut Test, random: &mut Random, image: Image) {
     }
 }
 
-/// Board 3 with two requests waiting of ten sent, and three conflicts.
+/// Board 3 with two requests waiting of ten sent, three conflicts, and flight
+/// times of two peers and at its own place.
 pub fn waiting_keeper() -> Keeper {
     let mut keeper = Keeper {
         started: true,
@@ -127,6 +150,9 @@ pub fn waiting_keeper() -> Keeper {
     };
     (keeper.tags[4], keeper.sent_at[4]) = (9, 900);
     (keeper.tags[15], keeper.sent_at[15]) = (5, 0);
+    (keeper.out_times[4], keeper.back_times[4]) = (1000, 2000);
+    (keeper.out_times[9], keeper.back_times[9]) = (LAST_FLIGHT, 67_305_985);
+    (keeper.out_times[3], keeper.back_times[3]) = (7, 8);
     keeper
 }
 

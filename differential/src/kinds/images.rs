@@ -5,7 +5,9 @@ use independent::{Keeper, Rule};
 
 use super::states;
 use crate::fitting;
-use crate::limits::{Image, IMAGE_LENGTH, LAST_CLAIM, LAST_MOMENT, LAST_TAG, LAST_TICKS, PEERS};
+use crate::limits::{
+    Image, IMAGE_LENGTH, LAST_CLAIM, LAST_FLIGHT, LAST_MOMENT, LAST_TAG, LAST_TICKS, PEERS, VERSION,
+};
 use crate::random::Random;
 use crate::test::Test;
 
@@ -56,7 +58,7 @@ fn of_random_bytes(test: &mut Test) {
         let mut image = [0; IMAGE_LENGTH];
         random.fill(&mut image);
         if !random.one_in(4) {
-            image[0] = 1;
+            image[0] = VERSION;
             image[1] = 1;
             image[3] &= 1;
         }
@@ -99,7 +101,23 @@ fn fitting_fields(random: &mut Random) -> Keeper {
         let waited = random.pick(&[0, 1, 3_599_999, 3_600_000, 3_600_001]);
         keeper.sent_at[peer] = keeper.ticks.saturating_sub(waited);
     }
+    // Of every place, the board's own too.
+    if !random.one_in(3) {
+        keeper.out_times = [(); PEERS].map(|()| flight_time(random));
+        keeper.back_times = [(); PEERS].map(|()| flight_time(random));
+    }
     keeper
+}
+
+/// A time in its range.
+fn flight_time(random: &mut Random) -> u32 {
+    match random.below(8) {
+        0..=2 => 0,
+        3 => random.below(1000) as u32,
+        4 => 1_000_000 + random.below(u64::from(LAST_CLAIM) + 1) as u32,
+        5 => LAST_FLIGHT - random.below(2) as u32,
+        _ => random.below(u64::from(LAST_FLIGHT) + 1) as u32,
+    }
 }
 
 fn ticks(random: &mut Random) -> u64 {
@@ -115,7 +133,7 @@ fn ticks(random: &mut Random) -> u64 {
 fn set_a_field(random: &mut Random, keeper: &mut Keeper) {
     let peer = random.place(PEERS);
     let other = random.place(PEERS);
-    match random.below(16) {
+    match random.below(18) {
         0 => keeper.board = random.pick(&[0, 15, 16, 17, 31, 255]),
         1 => keeper.claim = random.pick(&[0, LAST_CLAIM, LAST_CLAIM + 1, u16::MAX]),
         2 => keeper.lower = edge(random, keeper),
@@ -135,8 +153,22 @@ fn set_a_field(random: &mut Random, keeper: &mut Keeper) {
         12 => keeper.sent_at[peer] = random.pick(&[0, 1, keeper.ticks]),
         13 => keeper.sent_at[peer] = keeper.ticks.wrapping_add(1),
         14 => keeper.sent_at[peer] = keeper.sent_at[other],
+        15 => keeper.out_times[peer] = long_flight_time(random),
+        16 => keeper.back_times[peer] = long_flight_time(random),
         _ => keeper.started = false,
     }
+}
+
+/// A time at its limit or past it, by one or in its highest bits alone.
+fn long_flight_time(random: &mut Random) -> u32 {
+    random.pick(&[
+        LAST_FLIGHT,
+        LAST_FLIGHT,
+        LAST_FLIGHT + 1,
+        1 << 30,
+        1 << 31,
+        u32::MAX,
+    ])
 }
 
 fn edge(random: &mut Random, keeper: &Keeper) -> i64 {

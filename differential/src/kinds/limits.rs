@@ -161,6 +161,23 @@ const DATE: Place = Place {
     long: &["1999-12-31T23:59:59", "2000-01-01T00:00:00"],
 };
 
+/// An out time or a back time.
+const FLIGHT: Place = Place {
+    ordinary: &["0", "1000", "2_000"],
+    at_limits: &[
+        "0",
+        "1",
+        "999999999",
+        "1000000000",
+        "1000000001",
+        "4294967295",
+        "4294967296",
+        "5294967296",
+        "5294967297",
+    ],
+    long: LONG,
+};
+
 /// What has no numeral's spelling or breaks every limit: leading zeros, signs,
 /// 19 and 20 digits, bytes beside the digits, `_` where no group begins.
 const ODD: &[&str] = &[
@@ -213,6 +230,7 @@ const FORMS: &[(&[&str], &[&Place])] = &[
     ),
     (&["(drop ", ")"], &[&PEER]),
     (&["(window ", " (", " ", "))"], &[&SLOT, &DATE, &DATE]),
+    (&["(flight ", " (", " ", "))"], &[&PEER, &FLIGHT, &FLIGHT]),
 ];
 
 pub fn run(test: &mut Test) {

@@ -5,6 +5,7 @@ mod brackets;
 mod bytes;
 mod damage;
 mod dates;
+mod flights;
 mod handmade;
 mod images;
 mod lengths;
@@ -39,4 +40,5 @@ pub fn run_all(test: &mut Test) {
     dates::run(test);
     brackets::run(test);
     lists::run(test);
+    flights::run(test);
 }

@@ -1,8 +1,6 @@
 //! Numerals at every place of every command, spelled plain, grouped, and in
 //! every way in which no numeral is.
 
-use std::process;
-
 use independent::Keeper;
 
 use super::handmade::waiting_keeper;
@@ -25,7 +23,7 @@ struct Place {
     is_edge: bool,
 }
 
-const PLACES: [Place; 12] = [
+const PLACES: [Place; 15] = [
     number("(start ", " im 200 (-1000 1000))"),
     number("(start 3 mm ", " (-1000 1000))"),
     edge("(start 3 im 200 (", " 4000000000000000000))"),
@@ -38,6 +36,9 @@ const PLACES: [Place; 12] = [
     edge("(reply 4 9 (-4000000000000000000 ", "))"),
     number("(drop ", ")"),
     number("(window ", " (1999-12-31T23:59:59 2000-01-01T00:00:01))"),
+    number("(flight ", " (1000 2_000))"),
+    number("(flight 7 (", " 1000000000))"),
+    number("(flight 7 (1_000_000_000 ", "))"),
 ];
 
 const BEFORE_TAG: &str = "(reply 4 ";
@@ -167,7 +168,7 @@ fn give(test: &mut Test, state: Image, place: &Place, text: &str) {
     let returned = test.line(&mut image, line.as_bytes(), SHORTEST_OUTPUT);
     if !is_numeral(text, place.is_edge) {
         if returned.number != 1 {
-            mismatch(test, "what is no numeral was read", &line);
+            test.mismatch("what is no numeral was read", &line);
         }
         return;
     }
@@ -175,18 +176,11 @@ fn give(test: &mut Test, state: Image, place: &Place, text: &str) {
     let plain_line = plain(line.as_bytes());
     let plain_returned = test.line(&mut plain_image, &plain_line, SHORTEST_OUTPUT);
     if returned.number == 1 {
-        mismatch(test, "a numeral was not read", &line);
+        test.mismatch("a numeral was not read", &line);
     }
     if returned != plain_returned || image != plain_image {
-        mismatch(test, "the plain spelling is another command", &line);
+        test.mismatch("the plain spelling is another command", &line);
     }
-}
-
-fn mismatch(test: &Test, difference: &str, line: &str) -> ! {
-    println!("MISMATCH: {difference}");
-    println!("{}", test.case_in_words());
-    println!("line: `{}`", line.escape_default());
-    process::exit(1);
 }
 
 /// A line with a numeral at some place that is spelled in some way.

@@ -4,7 +4,7 @@ use crate::limits::{Image, IMAGE_LENGTH, SHORTEST_OUTPUT};
 use crate::test::Test;
 
 /// Not started; started with nothing waiting; with some and with all peers
-/// waiting; under both rules; near each end of the range.
+/// waiting; under both rules; near each end of the range; with flight times.
 pub fn all(test: &mut Test) -> Vec<Image> {
     let some = ["(request 4)", "(pass 7)", "(request 15)"];
     let mut full: Vec<String> = vec!["(start 3 im 200 (-1000 1000))".into()];
@@ -24,6 +24,15 @@ pub fn all(test: &mut Test) -> Vec<Image> {
         runs.push(vec![start]);
         runs.push([&[start], &some[..]].concat());
     }
+    runs.push(vec![
+        "(start 3 mm 200 (-5000000 5000000))",
+        "(flight 4 (1000 2000))",
+        "(flight 15 (1000000000 999999999))",
+        "(flight 0 (67305985 134678021))",
+        "(request 4)",
+        "(pass 7)",
+        "(request 15)",
+    ]);
     runs.iter().map(|lines| after(test, lines)).collect()
 }
 

@@ -7,7 +7,7 @@ use crate::date::Date;
 use crate::fitting;
 use crate::lent::LONGEST;
 use crate::limits::{
-    Image, LAST_CLAIM, LAST_MOMENT, LAST_PASS, LAST_TAG, PEERS, SHORTEST_OUTPUT, SLOTS,
+    Image, LAST_CLAIM, LAST_FLIGHT, LAST_MOMENT, LAST_PASS, LAST_TAG, PEERS, SHORTEST_OUTPUT, SLOTS,
 };
 use crate::random::Random;
 use crate::spelling::some_grouped;
@@ -49,10 +49,15 @@ const NUMBERS: &[u64] = &[
     86_399_999,
     86_400_000,
     86_400_001,
+    999_999_999,
+    1_000_000_000,
+    1_000_000_001,
     (1 << 32) - 1,
     1 << 32,
     (1 << 32) + 1,
     (1 << 32) + 15,
+    (1 << 32) + 1_000_000_000,
+    (1 << 32) + 1_000_000_001,
     (1 << 63) - 1,
     1 << 63,
     u64::MAX - 1,
@@ -105,6 +110,11 @@ const FORMS: &[Command] = &[
     window(16, Date::FIRST, Date::LAST),
     window(15, Date::FIRST, Date::ZEROS),
     window(15, Date::LAST, Date::LAST),
+    flight(4, 1000, 2000),
+    flight(15, LAST_FLIGHT as u64, LAST_FLIGHT as u64),
+    flight(16, 0, 0),
+    flight(0, LAST_FLIGHT as u64 + 1, 0),
+    flight(0, 0, LAST_FLIGHT as u64 + 1),
 ];
 
 const fn start(board: u64, rule: u64, claim: u64, lower: i64, upper: i64) -> Command {
@@ -128,6 +138,10 @@ const fn reply(peer: u64, tag: u64, trailing: i64, leading: i64) -> Command {
 
 const fn window(slot: u64, start: Date, end: Date) -> Command {
     Command::Window { slot, start, end }
+}
+
+const fn flight(peer: u64, out: u64, back: u64) -> Command {
+    Command::Flight { peer, out, back }
 }
 
 pub fn run(test: &mut Test) {
@@ -156,7 +170,7 @@ fn at_limits(test: &mut Test) {
 }
 
 /// The commands that have this number in one place.
-fn with_number(number: u64) -> [Command; 9] {
+fn with_number(number: u64) -> [Command; 13] {
     [
         start(number, 0, 200, -1000, 1000),
         start(3, number, 200, -1000, 1000),
@@ -167,6 +181,10 @@ fn with_number(number: u64) -> [Command; 9] {
         reply(4, number, -1000, 1000),
         Command::Drop { peer: number },
         window(number, Date::FIRST, Date::LAST),
+        flight(number, 1000, 2000),
+        flight(4, number, 2000),
+        flight(15, 1000, number),
+        flight(0, number, number),
     ]
 }
 
@@ -236,7 +254,7 @@ fn write_and_read(
 fn random_command(random: &mut Random) -> Command {
     let peer = number(random, 0, PEERS as u64 - 1);
     let (first, second) = edges(random);
-    match random.below(20) {
+    match random.below(22) {
         0..=4 => {
             let rule = number(random, 0, 1);
             let claim = number(random, 0, u64::from(LAST_CLAIM));
@@ -253,6 +271,11 @@ fn random_command(random: &mut Random) -> Command {
         13 => Command::Drop { peer },
         14 => Command::Read,
         15 => Command::Waiting,
+        16..=17 => {
+            let out = number(random, 0, u64::from(LAST_FLIGHT));
+            let back = number(random, 0, u64::from(LAST_FLIGHT));
+            flight(peer, out, back)
+        }
         _ => random_window(random),
     }
 }

@@ -9,8 +9,8 @@ use crate::tally::{print_numbers, seldom, Numbers};
 /// output for every line, and a run that spends all tags would be too long.
 const NUMBERS: [u8; 11] = [0, 1, 2, 3, 4, 5, 6, 7, 8, 11, 12];
 /// The numbers that lines with `_` have to be given: no request or window that is
-/// judged further has one, and what leaves the range seldom has.
-const SPELLED: [u8; 7] = [0, 1, 2, 3, 4, 7, 8];
+/// judged further has one, and what leaves the range seldom has. 6 is a flight's.
+const SPELLED: [u8; 8] = [0, 1, 2, 3, 4, 6, 7, 8];
 
 pub struct ProgramTally {
     from_a_file: u64,
@@ -21,6 +21,8 @@ pub struct ProgramTally {
     lines: Numbers,
     /// Those with `_`.
     spelled: Numbers,
+    /// Flights that were accepted.
+    flights: u64,
     failed_reads: u64,
     failed_writes: u64,
     signals: u64,
@@ -38,6 +40,7 @@ impl ProgramTally {
             bytes_written: 0,
             lines: [0; 256],
             spelled: [0; 256],
+            flights: 0,
             failed_reads: 0,
             failed_writes: 0,
             signals: 0,
@@ -63,6 +66,7 @@ impl ProgramTally {
             let number = usize::from(number);
             self.lines[number] += 1;
             self.spelled[number] += u64::from(line.contains(&b'_'));
+            self.flights += u64::from(number == 0 && line.starts_with(b"(flight "));
         }
     }
 
@@ -92,6 +96,7 @@ impl ProgramTally {
         );
         print_numbers("lines by number", &self.lines);
         print_numbers("lines with `_` by number", &self.spelled);
+        println!("  accepted flights: {}", self.flights);
         println!(
             "  {} runs with a failed read, {} with a failed write, {} ended by a signal, \
              {} that could have one and had none",
@@ -104,6 +109,9 @@ impl ProgramTally {
         let mut missing = seldom(enough, "the program", &NUMBERS, &self.lines);
         let spelled = "the program, for a line with `_`,";
         missing.extend(seldom(enough, spelled, &SPELLED, &self.spelled));
+        if self.flights < enough {
+            missing.push(format!("the program accepted less than {enough} flights"));
+        }
         missing
     }
 }

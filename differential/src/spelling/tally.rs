@@ -7,7 +7,7 @@ use crate::tally::{print_numbers, seldom, Numbers};
 /// A part of a command, by its place after the word, with the numbers that lines
 /// have to be given whose `_` stands there. Of a part without grouped numerals in
 /// its range these are 1 and 2, and of a date 1.
-const PARTS: [(&str, usize, &str, &[u8]); 14] = [
+const PARTS: [(&str, usize, &str, &[u8]); 17] = [
     ("start", 1, "board", &[1, 2]),
     ("start", 3, "claim", &[0, 1, 2, 3, 10]),
     ("start", 4, "lower edge", &[0, 1, 2, 3, 10]),
@@ -22,6 +22,9 @@ const PARTS: [(&str, usize, &str, &[u8]); 14] = [
     ("window", 1, "slot", &[1, 2]),
     ("window", 2, "start", &[1]),
     ("window", 3, "end", &[1]),
+    ("flight", 1, "peer", &[1, 2]),
+    ("flight", 2, "out time", &[0, 1, 2, 3, 4, 6, 10]),
+    ("flight", 3, "back time", &[0, 1, 2, 3, 4, 6, 10]),
 ];
 
 pub struct SpellingTally {
@@ -112,6 +115,7 @@ mod tests {
             ("(start 3 im 1_000 (-1_000 1000))", 0),
             ("(reply 4 1 (1000 1_000))", 7),
             ("(window 0 (2000-01-01T00:00:00 2_000-01-01T00:00:00))", 1),
+            ("(flight 4 (1000 2_000))", 6),
             ("(pass 1000)", 0),
             ("(read_)", 1),
             ("_", 1),
@@ -121,9 +125,9 @@ mod tests {
         let counted: Vec<_> = (0..PARTS.len())
             .filter(|&at| tally.parts[at].iter().sum::<u64>() == 1)
             .collect();
-        assert_eq!(counted, [1, 2, 9, 13]);
+        assert_eq!(counted, [1, 2, 9, 13, 16]);
         assert_eq!((tally.parts[1][0], tally.parts[9][7]), (1, 1));
-        assert_eq!(tally.counts(), (5, 1));
+        assert_eq!(tally.counts(), (6, 1));
     }
 
     /// A run that reaches no spelling fails for every part and every way.

@@ -3,7 +3,7 @@
 use std::fmt;
 
 use crate::date::Date;
-use crate::limits::{LAST_CLAIM, LAST_MOMENT, LAST_PASS, LAST_TAG, PEERS, SLOTS};
+use crate::limits::{LAST_CLAIM, LAST_FLIGHT, LAST_MOMENT, LAST_PASS, LAST_TAG, PEERS, SLOTS};
 
 /// Any numbers will do. The rule is 0 for im and 1 for mm.
 #[derive(Clone, Copy)]
@@ -36,6 +36,11 @@ pub enum Command {
         slot: u64,
         start: Date,
         end: Date,
+    },
+    Flight {
+        peer: u64,
+        out: u64,
+        back: u64,
     },
 }
 
@@ -82,6 +87,9 @@ impl Command {
             }
             Command::Read | Command::Waiting => true,
             Command::Window { slot, .. } => slot < SLOTS as u64,
+            Command::Flight { peer, out, back } => {
+                is_peer(peer) && is_flight_time(out) && is_flight_time(back)
+            }
         }
     }
 
@@ -123,12 +131,21 @@ impl Command {
                 start: start.cut(bits),
                 end: end.cut(bits),
             },
+            Command::Flight { peer, out, back } => Command::Flight {
+                peer: cut(peer),
+                out: cut(out),
+                back: cut(back),
+            },
         }
     }
 }
 
 fn is_peer(number: u64) -> bool {
     number < PEERS as u64
+}
+
+fn is_flight_time(number: u64) -> bool {
+    number <= u64::from(LAST_FLIGHT)
 }
 
 fn are_edges(first: i64, second: i64) -> bool {
@@ -166,6 +183,7 @@ impl fmt::Display for Command {
             Command::Read => write!(f, "(read)"),
             Command::Waiting => write!(f, "(waiting)"),
             Command::Window { slot, start, end } => write!(f, "(window {slot} ({start} {end}))"),
+            Command::Flight { peer, out, back } => write!(f, "(flight {peer} ({out} {back}))"),
         }
     }
 }

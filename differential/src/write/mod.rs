@@ -113,6 +113,11 @@ fn by_library(command: Command, out: &mut [u8]) -> Returned {
         Command::Window { slot, start, end } => {
             library::write_window(out, slot, &start.to_library(), &end.to_library())
         }
+        Command::Flight {
+            peer,
+            out: out_time,
+            back,
+        } => library::write_flight(out, peer, out_time, back),
     };
     returned.into()
 }
@@ -140,6 +145,11 @@ fn by_independent(command: Command, out: &mut [u8]) -> Returned {
         Command::Window { slot, start, end } => {
             independent::write_window(out, slot, start.0, end.0)
         }
+        Command::Flight {
+            peer,
+            out: out_time,
+            back,
+        } => independent::write_flight(out, peer, out_time, back),
     };
     written.into()
 }

@@ -4,7 +4,7 @@ use super::Command;
 use crate::tally::{print_numbers, seldom, Numbers, WIDTHS};
 
 /// The call for each form, with the numbers that it can return.
-const FORMS: [(&str, &[u8]); 8] = [
+const FORMS: [(&str, &[u8]); 9] = [
     ("boardtime_write_start", &[0, 2, 10]),
     ("boardtime_write_pass", &[0, 2, 10]),
     ("boardtime_write_request", &[0, 2, 10]),
@@ -13,6 +13,7 @@ const FORMS: [(&str, &[u8]); 8] = [
     ("boardtime_write_read", &[0, 10]),
     ("boardtime_write_waiting", &[0, 10]),
     ("boardtime_write_window", &[0, 2, 10, 11, 12]),
+    ("boardtime_write_flight", &[0, 2, 10]),
 ];
 const PLAIN_NUMBERS: [u8; 6] = [0, 1, 2, 10, 11, 12];
 
@@ -122,5 +123,6 @@ fn form(command: &Command) -> usize {
         Command::Read => 5,
         Command::Waiting => 6,
         Command::Window { .. } => 7,
+        Command::Flight { .. } => 8,
     }
 }

@@ -32,6 +32,9 @@ const SHORT: &[&[u8]] = &[
     b"(start 3 im 200 (-1000 1000))\n(pass 1)\n(rea",
     b"(start 3 im 200 (0 0))\n(window 3 (1999-12-31T23:59:59 2000-01-01T00:00:00))",
     b"(start 3 im 200 (-1 -1))\n(window 3 (1999-12-31T23:59:59 2000-01-01T00:00:00))\n(rea",
+    b"(start 3 im 200 (-1000 1000))\n(flight 4 (1000 2000))",
+    b"(start 3 im 200 (-1000 1000))\n(flight 4 (1_000 2_000))\n(request 4)\n(flight 4 (0 0))",
+    b"(start 3 mm 200 (-1000 1000))\n(flight 4 (1000000000 0))\n(flight 4 (0 1_000_000_001))\n(fl",
     // The longest start, plain and grouped, and lines that begin with it.
     b"(start 15 mm 50000 (-4000000000000000000 -3999999999999999999))",
     b"(start 15 mm 50000 (-4000000000000000000 -3999999999999999999))x\n(read)",

@@ -114,13 +114,16 @@ impl Input {
             .sum()
     }
 
-    /// A reply of a waiting peer, if there is one, that rule im takes. It names
-    /// a moment between the own edges.
+    /// A reply of a waiting peer, if there is one, that rule im takes. Its
+    /// bracket holds a moment between the own edges, whatever the flight times
+    /// of the peer; if it has none, the reply names that moment.
     pub fn reply(&self) -> Option<String> {
         let keeper = self.keeper();
         let peer = (0..PEERS).find(|&peer| keeper.waiting >> peer & 1 == 1)?;
         let moment = keeper.lower + (keeper.upper - keeper.lower) / 3;
+        let trailing = (moment - i64::from(keeper.back_times[peer])).max(-LAST_MOMENT);
+        let leading = (moment + i64::from(keeper.out_times[peer])).min(LAST_MOMENT);
         let tag = keeper.tags[peer];
-        Some(format!("(reply {peer} {tag} ({moment} {moment}))"))
+        Some(format!("(reply {peer} {tag} ({trailing} {leading}))"))
     }
 }
