@@ -6,7 +6,7 @@ use std::fs;
 use std::hint::black_box;
 use std::time::{Duration, Instant};
 
-use independent::{answer_image, answer_line};
+use independent::{answer_image, answer_line, fresh_image, IMAGE_LENGTH};
 
 const OUTPUT_BYTES: usize = 300;
 
@@ -37,7 +37,8 @@ fn call_library(lines: &[&[u8]]) -> usize {
 /// The independent implementation on an image.
 #[inline(never)]
 fn call_image(lines: &[&[u8]]) -> usize {
-    let mut image = *boardtime::Keeper::fresh().image();
+    let mut image = [0; IMAGE_LENGTH];
+    fresh_image(&mut image);
     let mut out = [0; OUTPUT_BYTES];
     let mut sum = 0;
     for line in lines {
@@ -65,7 +66,17 @@ pub fn once(name: &str, file: &str) -> Result<(), Box<dyn Error>> {
         return Err(format!("no side {name}").into());
     };
     let input = fs::read(file)?;
-    black_box(side(&lines(&input)));
+    let lines = lines(&input);
+    let sum = black_box(side(&lines));
+    // Calls that are all refused, as with an image of another length, would be
+    // counted too. A side is not called twice: its calls are counted.
+    let other = match name {
+        "keeper" => call_image,
+        _ => call_keeper,
+    };
+    if sum != other(&lines) {
+        return Err(format!("the side {name} answers {file} differently").into());
+    }
     Ok(())
 }
 
