@@ -74,7 +74,7 @@
  * `(start ...)` alone.
  *
  * An image that an older library left is 232 bytes long, with a version of 1
- * and without flight times. It cannot be gone on with: passed with its own
+ * and without flight times. This library does not read it: passed with its own
  * length, it is refused with 255 and left as it was; put at the front of a
  * buffer of 360 bytes, it counts as not started, by its version. A board that
  * finds one makes a fresh image of 360 bytes, starts it with edges that hold the
@@ -95,9 +95,14 @@
  * `(flight PEER (OUT BACK))` sets a peer's out time and back time, in
  * nanoseconds: a request never takes less than OUT to reach the peer, and its
  * reply never less than BACK to come back. Both are 0 after a start, and stay as
- * they are when a request ends. The bracket of that peer's next reply then begins
- * BACK later and ends OUT earlier; a bracket left empty is a conflict. While a
- * request to the peer waits they cannot be set (6).
+ * they are when a request ends; while one waits they cannot be set (6). A reply
+ * is judged by its bracket, the moments at which the last tick can have been by
+ * the reply: from TRAILING less one longest tick through LEADING plus the longest
+ * ticks since the request. With flight times the brackets of that peer's replies
+ * begin BACK later and end OUT earlier. One that is left empty is a conflict.
+ * Under im a bracket narrows the edges; under mm it decides about conflicts
+ * alone, and the times bear on nothing else. A time that is larger than what
+ * frames really take can make the edges lose the true time.
  *
  * A board may keep the image in FRAM and go on with it after a reset. It then
  * owes the keeper the ticks that passed meanwhile: without them the edges need

@@ -23,7 +23,7 @@
  *
  * Memory that a store for images of 232 bytes has left has its check sums at
  * other places. It has no whole copy here, and a fresh keeper is taken: as
- * boardtime.h says, such an image cannot be gone on with.
+ * boardtime.h says, such an image is not read.
  *
  * The ticks. An image that comes back after a reset is that of the last
  * accepted call, and the ticks since then are owed to the keeper: without them

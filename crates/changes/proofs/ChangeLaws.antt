@@ -8,7 +8,7 @@ use native.Mathlib.Nat.{mul-le-mul-left, mul-suc}
 use native.Mathlib.Omega.{arith}
 use borrow.Author.Tests.{eq-eqb, le-leb, eqb-true, leb-true}
 use lib.Dec.{leb}
-use lib.ListN.{length, set, length-set, length-append}
+use lib.ListN.{length, getD, set, length-set, length-append}
 use lib.Seq.{set-append-left, getD-set-same}
 use Rattle.bits.proofs.Tests.{both}
 use Rattle.moment.specs.declared.Interval.{Interval}
@@ -128,8 +128,11 @@ module _
     flight-image peer out back h =
         let front = ownBytes k ++ peerBytes k in
         let long : length front ≡ 232 = length-append (ownBytes k) (peerBytes k) ∙ omega (arith, own-length k, peers-length k tags sent) in
-        rw (peer-there peer h, getD-set-same (k .out) peer out 0 (omega (arith, outs)), getD-set-same (k .back) peer back 0 (omega (arith, backs)))
-        (ap (λ (t : List ℕ). stored (stored (front ++ t) (232 + 4 * peer) (lowestFirst 4 out)) (296 + 4 * peer) (lowestFirst 4 back)) (sym (append-nil (flightBytes k)))
+        let put : ℕ → ℕ → List ℕ = λ o b. stored (stored (front ++ flightBytes k) (232 + 4 * peer) (lowestFirst 4 o)) (296 + 4 * peer) (lowestFirst 4 b) in
+        rw (peer-there peer h)
+        (ap (λ (o : ℕ). put o (getD (set (k .back) peer back) peer 0)) (getD-set-same (k .out) peer out 0 (omega (arith, outs)))
+        ∙ ap (put out) (getD-set-same (k .back) peer back 0 (omega (arith, backs)))
+        ∙ ap (λ (t : List ℕ). stored (stored (front ++ t) (232 + 4 * peer) (lowestFirst 4 out)) (296 + 4 * peer) (lowestFirst 4 back)) (sym (append-nil (flightBytes k)))
         ∙ pair-put front [] 4 4 (k .out) (k .back) peer out back (232 + 4 * peer) (296 + 4 * peer) (omega (arith, long)) (omega (arith, long)) outs backs h
         ∙ ap (λ (t : List ℕ). front ++ t) (append-nil (eachLowestFirst 4 (set (k .out) peer out) ++ eachLowestFirst 4 (set (k .back) peer back))))
 

@@ -1,6 +1,6 @@
 -- Causes of a refusal, in document 01's order. 'The first cause that holds is given, tried in the order .. 2, 3, 4; then for request 6, 9; for
--- reply 7, 8, the conflict test, 5; for drop 7; for pass 5', and for flight 6, 'after 4' (document 02, order 7). (10 and 1 come before, where the line is looked at; 2 is
--- a command's own, and so are 11 and 12 of a window, 'both after 2 and before 3'.)
+-- reply 7, 8, the conflict test, 5; for drop 7; for pass 5', and for flight 6, 'after 4' (document 02, order 7). (10 and 1 come before, where the
+-- line is looked at; 2 is a command's own, and so are 11 and 12 of a window, 'both after 2 and before 3'.)
 use mathlib.Core.Bool.{not, _&&_}
 use mathlib.Core.List.{List, [], _∷_, _++_}
 use Prim.Native.Nat.{ℕ, _+_, _-_}

@@ -1,4 +1,4 @@
-// Whether a keeper that is handed in counts as started: document 01, 'Moments and ticks'.
+// Whether a keeper that is handed in counts as started: document 01, 'Moments and ticks', and document 02, order 7.
 use crate::Keeper;
 use bits::bit_of;
 use bits::count_of;

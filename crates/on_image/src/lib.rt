@@ -48,7 +48,7 @@ fn store_changes(image: &mut [u8], answer: Answer, keeper: Keeper)
         } => {}
         Answer::Waiting => {}
         Answer::Heater(_, _) => {}
-        // The arrays are lent from locals of their own, as everywhere.
+        // The arrays are lent from locals of their own: to lend a field, all of the keeper would be copied first.
         Answer::Flight(peer) => {
             let out = keeper.out;
             let back = keeper.back;

@@ -1,5 +1,6 @@
 -- The rules on edges: document 01, 'The calls', from MM-1, MM-2, IM-1 and IM-2 of the report, and document 02, order 5: a frame may arrive, or a
--- reading leave, almost a whole tick after the last count; and order 7: frames that never take less than a known time. A keeper's edges are those at its last tick. All numbers are integers here.
+-- reading leave, almost a whole tick after the last count; and order 7: frames that never take less than a known time. A keeper's edges are those
+-- at its last tick. All numbers are integers here.
 use mathlib.Core.Bool.{Bool, not}
 use Prim.Native.Nat.{ℕ, _+_, _*_}
 use lib.IntN.{ℤ, pos, _+ℤ_, _-ℤ_}

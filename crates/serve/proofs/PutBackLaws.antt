@@ -1,4 +1,4 @@
--- What an answer names is all that its command changed, so the keeper put back is the one that the command handed back.
+-- What is taken over for an answer is all that its command changed, so the keeper put back is the one that the command handed back.
 use mathlib.Core.Path.{_≡_, refl, sym, subst}
 use Rattle.command.specs.declared.Command.{Command}
 use Rattle.keeper.specs.Apply.{changed, passedTo, asked, ended, apply}

@@ -1,3 +1,3 @@
--- What the contract of `answer_lines` cites.
+-- What the contracts of `serve` cite.
 pub mod Serving
 pub mod PutBack

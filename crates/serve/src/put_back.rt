@@ -1,5 +1,6 @@
-// The keeper that a command handed back, put in the place of the one before it: only what its answer names is taken over, so that of the arrays a
-// pass, a read, a list, a window and a refused line copy none, and none but a start and a flight those of the flight times (docs/PERFORMANCE.md).
+// The keeper that a command handed back, put in the place of the one before it: only what a command with that answer changes is taken over, so that
+// of the arrays a pass, a read, a list, a window and a refused line copy none here, and only a start and a flight those of the flight times
+// (docs/PERFORMANCE.md, order 7).
 use keeper::Answer;
 use keeper::Keeper;
 ghost use mathlib.Core.Path.{_≡_};
