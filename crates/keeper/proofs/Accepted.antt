@@ -10,7 +10,7 @@ use Rattle.bits.specs.Choice.{choose}
 use Rattle.bits.proofs.Tests.{both, by-test}
 use Rattle.moment.specs.declared.Interval.{Interval}
 use Rattle.moment.specs.Intervals.{bothInRange, edgesWithin}
-use Rattle.rules.specs.Rules.{widened, bracket, outward}
+use Rattle.rules.specs.Rules.{widened, outward}
 use Rattle.rules.specs.Verdict.{conflictsAfter}
 use Rattle.rules.specs.declared.Rule.{Rule}
 use Rattle.rules.specs.declared.Finding.{Finding}
@@ -84,7 +84,7 @@ module _ (k : Keeper) (sized : Sized k) where
       let small = board-bound peer (both (boardWithin peer) (tagWithin tag) (limits .0) .0) in
       let w = waited (stateOf k) peer in
       ended-kept k peer _ _ sized before (omega arith) (both _ _ (not-false _ (c .1 .1 .1 .0)) .0)
-      (judged-within (bracket (k .claim) w (stateOf k .out peer) (stateOf k .back peer) reply) (outward (k .claim) w) reply (k .edges) (outward-from (k .claim) w) (limits .1) (started-read k before .edges) (k .rule)
+      (judged-within _ (outward (k .claim) w) reply (k .edges) (outward-from (k .claim) w) (limits .1) (started-read k before .edges) (k .rule)
       (c .1 .1 .1 .1 .1 .0))
       (count-most (k .conflicts) (replyVerdict (stateOf k) peer reply .finding))
 
