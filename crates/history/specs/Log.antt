@@ -79,7 +79,8 @@ logStarted s board rule claim edges =
       back = s .back;
     }
 
--- The state with what passes, requests, replies and drops change: edges, ticks, requests, conflicts, which peers wait, their tags, and their tick counts.
+-- The state with what passes, requests, replies and drops change: edges, ticks, requests, conflicts, which peers wait, their tags, and their
+-- tick counts.
 unfoldable pub stateWith : State → Interval → ℕ → ℕ → ℕ → (ℕ → Bool) → (ℕ → ℕ) → (ℕ → ℕ) → State
 stateWith s edges ticks requests conflicts waits tag sentAt =
     record {
