@@ -1,5 +1,7 @@
 // The writer of an answer's line and of its LF, whatever the answer is. It is total: where the output has no room for the line, or a list is asked
 // of a keeper that does not count as started, what is written is left open.
+#![tactic(auto)]
+
 ghost use Rattle.answers.specs.Writing.{LinePut};
 
 use answers::{dropped_line, flight_line, heater_line, put_refusal, sent_line, started_line};

@@ -1,4 +1,6 @@
 // The bits of a mask of sixteen. Both functions are total: a number above 15 is no place of it.
+#![tactic(auto)]
+
 ghost use Rattle.std.specs.Prelude.{◌≡◌};
 ghost use Rattle.bits.specs.Bits.{bit_of};
 ghost use Rattle.bits.specs.Below.{count_below};

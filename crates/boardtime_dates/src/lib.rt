@@ -1,6 +1,8 @@
 // Dates and moments for firmware and tools in C and Rust: the two calls of document 02, order 3, that write no line. A date is six numbers, year,
 // month, day, hour, minute and second, each of 64 bits, so that none is cut short on the way in: a number too large for any date is refused,
 // whatever its lower bits are. It is an archive of its own: a program that converts none links nothing of it.
+#![tactic(auto)]
+
 ghost use Rattle.boardtime_dates.specs.Calls.{MomentCall, DateCall};
 
 use calendar::convert::{date_of, moment_of};

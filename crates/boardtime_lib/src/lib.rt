@@ -1,5 +1,7 @@
 // The keeper for firmware in C and Rust: functions on numbers and lent bytes. The keeper crosses as an image (crate `image`), which a board
 // may keep over a reset. What a caller owes is in include/boardtime.h: valid buffers that do not overlap and that nothing else uses meanwhile.
+#![tactic(auto)]
+
 ghost use Rattle.std.specs.Prelude.{◌≡◌};
 ghost use Rattle.boardtime_lib.specs.Images.{FreshImage, LineImage, PassImage};
 

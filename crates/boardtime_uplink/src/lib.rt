@@ -1,6 +1,8 @@
 // Commands written back, for who sends lines from C or Rust: a call for each form, and one that writes the plain spelling of a line. Numbers have
 // 64 bits, so that none is cut short on the way in. C can't pass an enum, so a rule is a number: 0 for im, 1 for mm, as in an image. It is an
 // archive of its own: in that of a board the reader would be called in two places, and each line would cost the board more.
+#![tactic(auto)]
+
 ghost use Rattle.moment.specs.Intervals.{interval};
 ghost use Rattle.calendar.specs.Conversion.{date_in};
 ghost use Rattle.command.specs.Forms.{start, pass, request, reply, drop, read, waiting, window, flight};

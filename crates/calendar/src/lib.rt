@@ -1,4 +1,6 @@
 // Dates of the Gregorian calendar, years 1900 through 2099, and moments: document 02, order 3.
+#![tactic(auto)]
+
 pub mod convert;
 mod months;
 pub mod wide;

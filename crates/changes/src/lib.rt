@@ -1,5 +1,7 @@
 // What one command changes in an image, put into it; every other byte is left as it was. The image of a keeper becomes the image of the
 // changed keeper (`passed-image`, `asked-image`, `ended-image`, `flight-image`), with fewer stores than the whole keeper takes.
+#![tactic(auto)]
+
 ghost use Rattle.std.specs.Prelude.{◌≡◌, ◌≤◌, length};
 ghost use Rattle.image.specs.Layout.{image_length};
 ghost use Rattle.changes.specs.Changes.{has_peer, peer_stored, passed_image, asked_image, ended_image, flight_image};

@@ -1,4 +1,6 @@
 // Commands and their limits: document 01, 'Line forms', and document 02, orders 3 and 7.
+#![tactic(auto)]
+
 use calendar::Date;
 use moment::Interval;
 use rules::Rule;

@@ -1,4 +1,6 @@
 // The line of each answer that ends in edges, and its LF: of a pass and of a reply.
+#![tactic(auto)]
+
 ghost use Rattle.std.specs.Prelude.{[], ◌++◌, ◌≤◌, length};
 ghost use Rattle.writing.specs.Puts.{Puts};
 ghost use Rattle.keeper.specs.declared.Answer.TheVariants.{At, Replied};

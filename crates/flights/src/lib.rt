@@ -1,5 +1,7 @@
 // Flight times: document 02, order 7. Of each peer an out time and a back time, in nanoseconds: what a frame takes at the least to reach the peer,
 // and the peer's answer to come back.
+#![tactic(auto)]
+
 ghost use Rattle.std.specs.Prelude.{◌≡◌};
 ghost use Rattle.flights.specs.Flights.{flight_within, flights_kept};
 

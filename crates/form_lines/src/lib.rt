@@ -1,5 +1,7 @@
 // The line of each form, written to a lent buffer of any length: document 02, order 1. Numbers have 64 bits, so that one that no command can
 // hold is refused, and not cut short.
+#![tactic(auto)]
+
 use crate::layouts::{OUTSIDE_LIMITS, write_bare, write_edged, write_numbered, write_timed};
 use calendar::Date;
 use command::limits::{board_within, flight_within, reply_within, start_within, ticks_within};

@@ -1,4 +1,6 @@
 // A keeper as an image: a lent buffer of fixed length, so that a board can keep its keeper over a reset and go on.
+#![tactic(auto)]
+
 pub mod bytes;
 pub mod load;
 pub mod store;

@@ -1,4 +1,6 @@
 // The keeper of one board's time: document 01, 'Moments and ticks' and 'The calls', and document 02, order 7.
+#![tactic(auto)]
+
 use moment::Interval;
 use rules::{Rule, Verdict, WindowState};
 

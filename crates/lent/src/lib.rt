@@ -1,4 +1,6 @@
 // A board lends its keeper to be moved forward: the pass by value, with the keeper that it hands back put in the lent one's place.
+#![tactic(auto)]
+
 ghost use Rattle.lent.specs.Lent.{PassLent};
 
 use keeper::Keeper;

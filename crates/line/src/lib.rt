@@ -1,4 +1,6 @@
 // One call with a line: a keeper by value, a line of any bytes, and a lent output of any length.
+#![tactic(auto)]
+
 ghost use Rattle.std.specs.Prelude.{◌≡◌, true, ◌≤◌, length};
 ghost use Rattle.keeper.specs.State.{counts_as_started};
 ghost use Rattle.keeper.specs.declared.Answer.TheVariants.{Waiting, Refused};

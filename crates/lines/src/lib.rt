@@ -1,4 +1,6 @@
 // Lines in a buffer: where one ends, and what is held of one that is not whole yet.
+#![tactic(auto)]
+
 ghost use Rattle.std.specs.Prelude.{◌≡◌, not, [], ◌∷◌, ◌++◌, ◌+◌, ◌-◌, ◌≤◌, min, eqb, length, take, drop};
 ghost use Rattle.lines.specs.Lines.{breaks, line_length, SameEnd, held_of, Held};
 

@@ -178,7 +178,7 @@ widened n h = to_z_pos w64 h
 
 -- A signed value goes through its bits and back unchanged, if it is in range.
 pub got : (z : ℤ) → mag z < 2 ^ 63 → to_z w64 (of_z w64 z) ≡ z
-got z h = to_z-of_z (record { sfits = h })
+got z h = to_z-of_z {w = w64} (record { sfits = h })
 
 -- A test of two such values is the test of the integers.
 pub bare : (test : ℤ → ℤ → Bool) {a b : ℤ} {t : Bool} → SFits w64 a → SFits w64 b → test (to_z w64 (of_z w64 a)) (to_z w64 (of_z w64 b)) ≡ t → test a b ≡ t

@@ -1,4 +1,6 @@
 // Moments and ticks: document 01, 'Moments and ticks'. Every function is total: it answers for all arguments.
+#![tactic(auto)]
+
 ghost use Rattle.std.specs.Prelude.{◌≡◌, ◌*◌, pos};
 ghost use Rattle.moment.specs.Moment.{in_range, shortest, longest, moved_by, larger_of, smaller_of, floor_half};
 

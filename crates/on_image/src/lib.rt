@@ -1,4 +1,6 @@
 // A command on the keeper of an image. The image is loaded once, and only what the command changed is stored into it.
+#![tactic(auto)]
+
 ghost use Rattle.std.specs.Prelude.{◌≡◌, ◌≤◌, length};
 ghost use Rattle.image.specs.Layout.{image_length};
 ghost use Rattle.writing.specs.Puts.{least_output};

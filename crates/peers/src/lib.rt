@@ -1,4 +1,6 @@
 // What a keeper holds of its peers, as a mask of those that wait and an array each of tags and tick counts, and whether it is in order.
+#![tactic(auto)]
+
 ghost use Rattle.std.specs.Prelude.{◌≡◌, true, ℕ, ◌<◌, ◌≤◌};
 ghost use Rattle.bits.specs.Bits.{bit_of};
 ghost use Rattle.bits.specs.Below.{one, updated};

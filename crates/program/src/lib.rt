@@ -1,5 +1,7 @@
 // Lines from one descriptor to another, through one keeper: the work of the program boardtime. `turn` has no input or output;
 // `read` makes the one read of a turn; the loop here goes from turn to turn and writes.
+#![tactic(auto)]
+
 use crate::read::read_more;
 use crate::turn::{Stream, answers, turn};
 use keeper::Keeper;

@@ -1,4 +1,6 @@
 // The reader of command lines: document 01, 'Line forms', and document 02, orders 3, 4 and 7. It takes a line of any bytes and any length.
+#![tactic(auto)]
+
 use crate::walk::{begin, moved, rest, word};
 use command::Reading;
 

@@ -1,5 +1,7 @@
 // The rules on edges, and the verdict on a reply: document 01, 'The calls', from MM-1, MM-2, IM-1 and IM-2 of the report; and what is told of
 // edges and windows: document 02, orders 3 and 5; and brackets with flight times: order 7.
+#![tactic(auto)]
+
 use moment::Interval;
 
 pub mod edges;

@@ -1,5 +1,7 @@
 // boardtime's answers to the stored runs that need nothing but their lines. A marked line names a run, is written as it is, and begins it with
 // a fresh keeper; lines before the first mark have a fresh keeper too.
+#![tactic(auto)]
+
 use crate::marks::{mark_size, next_mark};
 use keeper::Keeper;
 use libc::{STDERR_FILENO, STDIN_FILENO, STDOUT_FILENO};

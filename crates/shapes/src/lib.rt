@@ -1,4 +1,6 @@
 // The words that begin a command line, and the parts that follow each: document 01, 'Line forms', and document 02, orders 3 and 7.
+#![tactic(auto)]
+
 use crate::forms::{bare_form, edged_form, flight_form, numbered_form, window_form};
 use command::Reading;
 

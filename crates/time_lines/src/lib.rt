@@ -1,4 +1,6 @@
 // The line of a time, and its LF.
+#![tactic(auto)]
+
 ghost use Rattle.std.specs.Prelude.{◌++◌};
 ghost use Rattle.text.specs.Words.{bytes};
 ghost use Rattle.numeral.specs.Digits.{digits};

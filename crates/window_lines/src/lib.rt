@@ -1,4 +1,6 @@
 // The line of a window, `(window SLOT (START END))`, and why it is refused.
+#![tactic(auto)]
+
 ghost use Rattle.std.specs.Prelude.{◌≡◌, ◌∷◌, ◌≤◌, length};
 ghost use Rattle.text.specs.Output.{Put};
 ghost use Rattle.dates.specs.DateText.{Fits};

@@ -1,4 +1,6 @@
 // The writer of commands: document 02, order 1. A command by value and a lent buffer of any length in; the number and the length back.
+#![tactic(auto)]
+
 ghost use Rattle.std.specs.Prelude.{◌≡◌};
 ghost use Rattle.form_lines.specs.Written.{write_result};
 ghost use Rattle.writer.specs.Written.{written, written_reading};

@@ -1,5 +1,7 @@
 // Parts of a line, put one after the other. Each part asks for no room of its own: where the whole line has room, every part has. And what
 // a call that writes a line returns.
+#![tactic(auto)]
+
 ghost use Rattle.std.specs.Prelude.{◌≡◌, ◌+◌, ◌*◌, ◌≤◌, length};
 ghost use Rattle.writing.specs.Puts.{least_output, Puts, pair};
 

@@ -1,0 +1,51 @@
+use Rattle.std.proofs.Common.{◌≡◌, ◌-◌, drop, sym, refl, ◌∙◌, ⊎_elim, arith, rules}
+use borrow.Author.Tests.{not-true, not-false}
+use Rattle.numeral.specs.Progress.{Counted}
+use Rattle.numeral.specs.Reading.{groups_from}
+use Rattle.numeral.proofs.GroupReading.{counted_room, turn_inside, turn_counted, turn_answer, groups_full, groups_over, ended_here, ended_on}
+use Rattle.numeral.proofs.groups.read_groups.Goals as goal
+
+pub loop-count-init : goal.loop-count-init
+loop-count-init c = (refl, c.requires)
+
+pub group_at-group-requires : goal.group_at-group-requires
+group_at-group-requires c = c.loop-count.invariant.1.inside
+
+pub overflow_mul-value : goal.overflow_mul-value
+overflow_mul-value c = omega (arith, counted_room c.loop-count.invariant.1 c.loop-count-test.true)
+
+pub overflow_add-value : goal.overflow_add-value
+overflow_add-value c = omega (arith, counted_room c.loop-count.invariant.1 c.loop-count-test.true)
+
+pub overflow_add-next : goal.overflow_add-next
+overflow_add-next c =
+    omega (arith, turn_inside c.loop-count.invariant.1 c.loop-count-test.true c.group_at-group.ensures c.if-group-gt999.false)
+
+pub loop-count-preserved : goal.loop-count-preserved
+loop-count-preserved c =
+    let read = c.loop-count.invariant.1 in
+    let room = c.loop-count-test.true in
+    let is = c.group_at-group.ensures in
+    (c.loop-count.invariant.0 ∙ turn_answer read room is c.if-group-gt999.false, turn_counted read room is c.if-group-gt999.false)
+
+pub returns-then-not-numeral_ends : goal.returns-then-not-numeral_ends
+returns-then-not-numeral_ends c =
+    let line = c.args.line.now in
+    let loop = c.loop-count in
+    sym
+    (loop.invariant.0
+    ∙ ⊎_elim (λ w. groups_full loop.value loop.count loop.next (drop loop.next line) (omega arith))
+    (λ w. groups_over loop.value loop.count loop.next (drop loop.next line) (rw (← w.1.ensures) w.2.taken))
+    c.loop-count-test.branch-raw
+    ∙ ended_on loop.value loop.next (drop loop.next line) (sym c.numeral_ends.ensures ∙ not-true _ c.if-not-numeral_ends.true-raw))
+
+pub returns : goal.returns
+returns c =
+    let line = c.args.line.now in
+    let loop = c.loop-count in
+    sym
+    (loop.invariant.0
+    ∙ ⊎_elim (λ w. groups_full loop.value loop.count loop.next (drop loop.next line) (omega arith))
+    (λ w. groups_over loop.value loop.count loop.next (drop loop.next line) (rw (← w.1.ensures) w.2.taken))
+    c.loop-count-test.branch-raw
+    ∙ ended_here loop.value loop.next (drop loop.next line) (sym c.numeral_ends.ensures ∙ not-false _ c.if-not-numeral_ends.false-raw))

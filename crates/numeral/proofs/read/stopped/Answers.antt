@@ -1,0 +1,19 @@
+-- The numeral ends there, or goes on.
+use Rattle.std.proofs.Common.{sym, ◌∙◌, rules}
+use borrow.Author.Tests.{not-true, not-false}
+use Rattle.numeral.proofs.read.stopped.Goals as goal
+
+pub ended-requires : goal.ended-requires
+ended-requires c = record { progress = c.requires.progress; ends = sym c.numeral_ends.ensures ∙ c.if-numeral_ends.true }
+
+pub returns-then-numeral_ends : goal.returns-then-numeral_ends
+returns-then-numeral_ends c = c.ended.ensures
+
+pub first_group-requires : goal.first_group-requires
+first_group-requires c =
+    let read = c.requires in
+    let on = sym c.numeral_ends.ensures ∙ c.if-numeral_ends.false in
+    record { progress = read.progress; on = on; with_underscore = λ h. read.with_underscore h on }
+
+pub returns : goal.returns
+returns c = c.first_group.ensures

@@ -1,0 +1,16 @@
+-- The bits joined are none where every peer passed holds 0 for both.
+use borrow.Author.Rules.{rules}
+use mathlib.Core.Path.{◌≡◌, refl, ◌∙◌}
+use Prim.Native.Nat.{◌-◌, ◌≤◌}
+use native.Mathlib.Omega.{arith}
+use Rattle.bits.specs.Below.{all_below}
+use Rattle.peers.specs.Peers.{idle_kept}
+use Rattle.peers.specs.Parts.{idle_or_waits, others_idle}
+use Rattle.peers.proofs.PeerLaws.{idle_more}
+use Rattle.peers.proofs.all_idle.Given as goal
+
+abbrev pub invariant-loop-p : goal.invariant-loop-p
+invariant-loop-p l = (l.p ≤ 16) × (idle_kept l.some_tag l.some_sent ≡ all_below l.p (idle_or_waits 0 l.tags l.sent_at))
+
+abbrev pub decreases-loop-p : goal.decreases-loop-p
+decreases-loop-p l = 16 - l.p

@@ -1,0 +1,18 @@
+-- Where none waits every peer, else every peer before the place, passed.
+use borrow.Author.Rules.{rules}
+use borrow.Author.Tests.{not-true, not-false}
+use mathlib.Core.Path.{◌≡◌, refl, sym, ◌∙◌}
+use mathlib.Core.Bool.{true}
+use mathlib.Core.Logic.{⊎_elim}
+use Prim.Native.Nat.{◌≤◌, ◌-◌}
+use native.Mathlib.Omega.{arith}
+use Rattle.bits.specs.Below.{all_below}
+use Rattle.peers.specs.Parts.{idle_or_waits, others_idle}
+use Rattle.bits.proofs.Below.{all_more, all_broken}
+use Rattle.peers.proofs.others_idle.Given as goal
+
+abbrev pub invariant-loop-p : goal.invariant-loop-p
+invariant-loop-p l = (l.p ≤ 16) × (all_below l.p (idle_or_waits l.waiting l.tags l.sent_at) ≡ true)
+
+abbrev pub decreases-loop-p : goal.decreases-loop-p
+decreases-loop-p l = 16 - l.p

@@ -1,0 +1,15 @@
+-- The two tests are the definition's, in two parts.
+use borrow.Author.Rules.{rules}
+use borrow.Author.Tests.{not-true, not-false}
+use mathlib.Core.Path.{sym, ◌∙◌}
+use Rattle.peers.proofs.PeerLaws.{peers_in_parts}
+use Rattle.peers.proofs.peers_kept.Goals as goal
+
+pub returns-then-not-others_idle : goal.returns-then-not-others_idle
+returns-then-not-others_idle c = rw (peers_in_parts, sym c.others_idle.ensures ∙ not-true _ c.if-not-others_idle.true-raw)
+
+pub waiters_kept-requires : goal.waiters_kept-requires
+waiters_kept-requires c = sym c.others_idle.ensures ∙ not-false _ c.if-not-others_idle.false-raw
+
+pub returns : goal.returns
+returns c = rw (peers_in_parts, sym c.others_idle.ensures ∙ not-false _ c.if-not-others_idle.false-raw, c.waiters_kept.ensures)
