@@ -10,11 +10,11 @@ pub returns-then-not-in_range : goal.returns-then-not-in_range
 unfolding both_in_range
 returns-then-not-in_range c =
     let low = got c.args.edges.lower (search rules) in
-    rw (rw low at (sym c.in_range.ensures ∙ not-true _ c.if-not-in_range.true-raw))
+    rw (rw low at (sym c.in_range.ensures ∙ c.if-not-in_range.true))
 
 pub returns : goal.returns
 unfolding both_in_range
 returns c =
     let low = got c.args.edges.lower (search rules) in
     let high = got c.args.edges.upper (search rules) in
-    rw (rw low at (sym c.in_range.ensures ∙ not-false _ c.if-not-in_range.false-raw), rw high at c.in_range-2.ensures)
+    rw (rw low at (sym c.in_range.ensures ∙ c.if-not-in_range.false), rw high at c.in_range-2.ensures)

@@ -10,4 +10,4 @@ returns c =
     let l = c.larger in
     let s = c.smaller in
     let x = c.args in
-    rw (got l.result l.type-inv, got s.result s.type-inv, l.ensures, s.ensures, got x.a.lower (search rules), got x.b.lower (search rules), got x.a.upper (search rules), got x.b.upper (search rules))
+    rw (got l.result l.type_inv, got s.result s.type_inv, l.ensures, s.ensures, got x.a.lower (search rules), got x.b.lower (search rules), got x.a.upper (search rules), got x.b.upper (search rules))

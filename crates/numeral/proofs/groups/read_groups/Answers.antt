@@ -4,6 +4,7 @@ use Rattle.numeral.specs.Progress.{Counted}
 use Rattle.numeral.specs.Reading.{groups_from}
 use Rattle.numeral.proofs.GroupReading.{counted_room, turn_inside, turn_counted, turn_answer, groups_full, groups_over, ended_here, ended_on}
 use Rattle.numeral.proofs.groups.read_groups.Goals as goal
+use Rattle.numeral.proofs.groups.read_groups.Goals.{else-loop-count-test, then-loop-count-test+then-group-gt999}
 
 pub loop-count-init : goal.loop-count-init
 loop-count-init c = (refl, c.requires)
@@ -34,10 +35,11 @@ returns-then-not-numeral_ends c =
     let loop = c.loop-count in
     sym
     (loop.invariant.0
-    ∙ ⊎_elim (λ w. groups_full loop.value loop.count loop.next (drop loop.next line) (omega arith))
-    (λ w. groups_over loop.value loop.count loop.next (drop loop.next line) (rw (← w.1.ensures) w.2.taken))
-    c.loop-count-test.branch-raw
-    ∙ ended_on loop.value loop.next (drop loop.next line) (sym c.numeral_ends.ensures ∙ not-true _ c.if-not-numeral_ends.true-raw))
+    ∙ elim c.loop-count-test.branch [
+      else-loop-count-test w ↦ groups_full loop.value loop.count loop.next (drop loop.next line) (omega arith)
+      | then-loop-count-test+then-group-gt999 w ↦ groups_over loop.value loop.count loop.next (drop loop.next line) (rw (← w.group_at-group.ensures) w.if-group-gt999.true)
+    ]
+    ∙ ended_on loop.value loop.next (drop loop.next line) (sym c.numeral_ends.ensures ∙ c.if-not-numeral_ends.true))
 
 pub returns : goal.returns
 returns c =
@@ -45,7 +47,8 @@ returns c =
     let loop = c.loop-count in
     sym
     (loop.invariant.0
-    ∙ ⊎_elim (λ w. groups_full loop.value loop.count loop.next (drop loop.next line) (omega arith))
-    (λ w. groups_over loop.value loop.count loop.next (drop loop.next line) (rw (← w.1.ensures) w.2.taken))
-    c.loop-count-test.branch-raw
-    ∙ ended_here loop.value loop.next (drop loop.next line) (sym c.numeral_ends.ensures ∙ not-false _ c.if-not-numeral_ends.false-raw))
+    ∙ elim c.loop-count-test.branch [
+      else-loop-count-test w ↦ groups_full loop.value loop.count loop.next (drop loop.next line) (omega arith)
+      | then-loop-count-test+then-group-gt999 w ↦ groups_over loop.value loop.count loop.next (drop loop.next line) (rw (← w.group_at-group.ensures) w.if-group-gt999.true)
+    ]
+    ∙ ended_here loop.value loop.next (drop loop.next line) (sym c.numeral_ends.ensures ∙ c.if-not-numeral_ends.false))

@@ -1,4 +1,4 @@
--- `digits::front::magnitude` meets its contract. A negative z is -(m + 1) for an m below 2 ^ 63, so that `-(z + 1)` is m, which is in range.
+-- A negative z is -(m + 1) for an m below 2 ^ 63, so that `-(z + 1)` is m, which is in range.
 use mathlib.Core.Path.{◌≡◌, ap, ◌∙◌}
 use Prim.Native.Nat.{ℕ, zero, suc, ◌<◌, ◌^◌}
 use native.Mathlib.Omega.{arith}
@@ -8,8 +8,7 @@ use mir.Syntax.{w64}
 use mir.Val.{SFits, of_z, to_z}
 use mir.Facts.{to_z-of_z}
 use Rattle.numeral.proofs.Sign.{below_zero, from_zero}
-use Rattle.digits.proofs.front.magnitude.Statement.{statement}
-use Rattle.digits.proofs.front.magnitude.Tie as tie
+use Rattle.digits.proofs.front.magnitude.Goals as goal
 
 next : (m : ℕ) → negsuc m +ℤ pos 1 ≡ neg_ℤ (pos m)
 next zero = +ℤ_one (negsuc zero)
@@ -37,41 +36,35 @@ module _ (z : ℤ) (f : SFits w64 z) (m : ℕ) (e : z ≡ negsuc m) (h : m < 2 ^
   back_read = to_z-of_z back_fits ∙ back_is
 
 -- what the test says of z in the arm of a negative number
-negative : (c : tie.Then1) → (m : ℕ) × (c.before.args.z ≡ negsuc m) × (m < 2 ^ 63)
-negative c = below_zero c.before.args.z c.before.ranges.z c.if1.true
+negative : (c : goal.Then-z-lt0) → (m : ℕ) × (c.args.z ≡ negsuc m) × (m < 2 ^ 63)
+negative c = below_zero c.args.z c.ranges.z c.if-z-lt0.true
 
-add-result : tie.Need-overflow-add-result
-add-result c =
+pub overflow_add-result : goal.overflow_add-result
+overflow_add-result c =
     let (m, e, h) = negative c in
-    sum_fits c.before.args.z c.before.ranges.z m e h
+    sum_fits c.args.z c.ranges.z m e h
 
-sub-result : tie.Need-overflow-sub-result
-sub-result c =
+pub overflow_sub-result : goal.overflow_sub-result
+overflow_sub-result c =
     let (m, e, h) = negative c in
-    back_fits c.before.args.z c.before.ranges.z m e h
+    back_fits c.args.z c.ranges.z m e h
 
-cast-result : tie.Need-overflow-cast-result
-cast-result c =
+pub overflow_cast-result : goal.overflow_cast-result
+overflow_cast-result c =
     let (m, e, h) = negative c in
-    rw (back_read c.before.args.z c.before.ranges.z m e h) (tt, omega arith)
+    rw (back_read c.args.z c.ranges.z m e h) (tt, omega arith)
 
-add-result-2 : tie.Need-overflow-add-result-2
-add-result-2 c =
+pub overflow_add-result-then-z-lt0 : goal.overflow_add-result-then-z-lt0
+overflow_add-result-then-z-lt0 c =
     let (m, e, h) = negative c in
-    rw (back_read c.before.args.z c.before.ranges.z m e h) (omega arith)
+    rw (back_read c.args.z c.ranges.z m e h) (omega arith)
 
-cast-result-2 : tie.Need-overflow-cast-result-2
-cast-result-2 c =
-    let (m, e, h) = from_zero c.before.args.z c.before.ranges.z c.if1.false in
-    rw (to_z-of_z c.before.ranges.z, e) (tt, omega arith)
+pub overflow_cast-result-else-z-lt0 : goal.overflow_cast-result-else-z-lt0
+overflow_cast-result-else-z-lt0 c =
+    let (m, e, h) = from_zero c.args.z c.ranges.z c.if-z-lt0.false in
+    rw (to_z-of_z c.ranges.z, e) (tt, omega arith)
 
-returns : tie.Need-returns
-returns c =
+pub returns-then-z-lt0 : goal.returns-then-z-lt0
+returns-then-z-lt0 c =
     let (m, e, h) = negative c in
-    rw (back_read c.before.args.z c.before.ranges.z m e h) (omega (arith, ap nat_abs e))
-
-returns-2 : tie.Need-returns-2
-returns-2 c = search rules
-
-pub magnitude-spec : {M : Type 1} → statement M
-magnitude-spec = tie.close (tie.spec add-result sub-result cast-result add-result-2 cast-result-2 returns returns-2)
+    rw (back_read c.args.z c.ranges.z m e h) (omega (arith, ap nat_abs e))
