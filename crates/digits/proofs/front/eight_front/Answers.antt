@@ -16,7 +16,7 @@ pub put_four-requires : goal.put_four-requires
 put_four-requires c =
     let a = c.args in
     let room = parts_room 4 a.more a.n (omega arith) c.four_front-at.ensures c.if-at-eq0.false in
-    (omega arith, omega (arith, room))
+    record { four_bound = omega arith; at_in_bounds = omega (arith, room) }
 
 pub returns : goal.returns
 returns c =

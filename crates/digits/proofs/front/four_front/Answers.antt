@@ -16,7 +16,7 @@ pub put_two-requires : goal.put_two-requires
 put_two-requires c =
     let a = c.args in
     let room = parts_room 2 a.more a.n (omega arith) c.two_front-at.ensures c.if-at-eq0.false in
-    (omega arith, omega (arith, room))
+    record { two_bound = omega arith; at_in_bounds = omega (arith, room) }
 
 pub returns : goal.returns
 returns c =

@@ -35,28 +35,36 @@ module _ (z : ℤ) (f : SFits w64 z) (m : ℕ) (e : z ≡ negsuc m) (h : m < 2 ^
   back_read : to_z w64 (of_z w64 (pos 0 -ℤ to_z w64 (of_z w64 (to_z w64 (of_z w64 z) +ℤ pos 1)))) ≡ pos m
   back_read = to_z-of_z back_fits ∙ back_is
 
--- what the test says of z in the arm of a negative number
-negative : (c : goal.Then-z-lt0) → (m : ℕ) × (c.args.z ≡ negsuc m) × (m < 2 ^ 63)
-negative c = below_zero c.args.z c.ranges.z c.if-z-lt0.true
-
 pub overflow_add-result : goal.overflow_add-result
 overflow_add-result c =
-    let (m, e, h) = negative c in
+    let negative : (m : ℕ) × (c.args.z ≡ negsuc m) × (m < 2 ^ 63) =
+    below_zero c.args.z c.ranges.z c.if-z-lt0.true
+    in
+    let (m, e, h) = negative in
     sum_fits c.args.z c.ranges.z m e h
 
 pub overflow_sub-result : goal.overflow_sub-result
 overflow_sub-result c =
-    let (m, e, h) = negative c in
+    let negative : (m : ℕ) × (c.args.z ≡ negsuc m) × (m < 2 ^ 63) =
+    below_zero c.args.z c.ranges.z c.if-z-lt0.true
+    in
+    let (m, e, h) = negative in
     back_fits c.args.z c.ranges.z m e h
 
 pub overflow_cast-result : goal.overflow_cast-result
 overflow_cast-result c =
-    let (m, e, h) = negative c in
+    let negative : (m : ℕ) × (c.args.z ≡ negsuc m) × (m < 2 ^ 63) =
+    below_zero c.args.z c.ranges.z c.if-z-lt0.true
+    in
+    let (m, e, h) = negative in
     rw (back_read c.args.z c.ranges.z m e h) (tt, omega arith)
 
 pub overflow_add-result-then-z-lt0 : goal.overflow_add-result-then-z-lt0
 overflow_add-result-then-z-lt0 c =
-    let (m, e, h) = negative c in
+    let negative : (m : ℕ) × (c.args.z ≡ negsuc m) × (m < 2 ^ 63) =
+    below_zero c.args.z c.ranges.z c.if-z-lt0.true
+    in
+    let (m, e, h) = negative in
     rw (back_read c.args.z c.ranges.z m e h) (omega arith)
 
 pub overflow_cast-result-else-z-lt0 : goal.overflow_cast-result-else-z-lt0
@@ -66,5 +74,8 @@ overflow_cast-result-else-z-lt0 c =
 
 pub returns-then-z-lt0 : goal.returns-then-z-lt0
 returns-then-z-lt0 c =
-    let (m, e, h) = negative c in
+    let negative : (m : ℕ) × (c.args.z ≡ negsuc m) × (m < 2 ^ 63) =
+    below_zero c.args.z c.ranges.z c.if-z-lt0.true
+    in
+    let (m, e, h) = negative in
     rw (back_read c.args.z c.ranges.z m e h) (omega (arith, ap nat_abs e))

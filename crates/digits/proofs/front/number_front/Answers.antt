@@ -16,7 +16,7 @@ pub put_eight-requires : goal.put_eight-requires
 put_eight-requires c =
     let n = c.args.n in
     let room = parts_room 8 0 n (omega arith) c.eight_front-at.ensures c.if-at-eq0.false in
-    (omega arith, omega (arith, room))
+    record { eight_bound = omega arith; at_in_bounds = omega (arith, room) }
 
 pub returns-then-n-lt10000000000000000 : goal.returns-then-n-lt10000000000000000
 returns-then-n-lt10000000000000000 c =
@@ -32,7 +32,7 @@ pub put_sixteen-requires : goal.put_sixteen-requires
 put_sixteen-requires c =
     let n = c.args.n in
     let room = parts_room 16 0 n (omega arith) c.four_front-at.ensures c.if-at-eq0-2.false in
-    (omega arith, omega (arith, room))
+    record { sixteen_bound = omega arith; at_in_bounds = omega (arith, room) }
 
 pub returns : goal.returns
 returns c =

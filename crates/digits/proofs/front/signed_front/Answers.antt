@@ -13,24 +13,31 @@ use Rattle.digits.proofs.FrontLaws.{none_front, lent_most, lent_put, signed_belo
 use borrow.Author.Rules.{rules}
 use Rattle.digits.proofs.front.signed_front.Goals as goal
 
-size : (c : goal.After-magnitude-n) → c.magnitude-n.result ≡ nat_abs c.args.z
-size c = c.magnitude-n.ensures ∙ ap nat_abs (to_z-of_z c.ranges.z)
-
--- the spelling of a negative number, by its magnitude
-negative : (c : goal.Then-z-lt0) → signed_digits c.args.z ≡ 45 ∷ digits c.magnitude-n.result
-negative c =
+pub returns-then-part-eq0 : goal.returns-then-part-eq0
+returns-then-part-eq0 c =
+    let size : c.magnitude-n.result ≡ nat_abs c.args.z =
+    c.magnitude-n.ensures ∙ ap nat_abs (to_z-of_z c.ranges.z)
+    in
+    let negative : signed_digits c.args.z ≡ 45 ∷ digits c.magnitude-n.result =
     let z = c.args.z in
     let (m, e, h) = below_zero z c.ranges.z c.if-z-lt0.true in
-    signed_below z m e ∙ ap (λ (n : ℕ). 45 ∷ digits n) (sym (size c.before))
-
-pub returns-then-part-eq0 : goal.returns-then-part-eq0
-returns-then-part-eq0 c = rw (negative c.before.before) (none_front (omega arith))
+    signed_below z m e ∙ ap (λ (n : ℕ). 45 ∷ digits n) (sym (size))
+    in
+    rw (negative) (none_front (omega arith))
 
 pub returns-then-count-eq0 : goal.returns-then-count-eq0
 returns-then-count-eq0 c =
+    let size : c.magnitude-n.result ≡ nat_abs c.args.z =
+    c.magnitude-n.ensures ∙ ap nat_abs (to_z-of_z c.ranges.z)
+    in
+    let negative : signed_digits c.args.z ≡ 45 ∷ digits c.magnitude-n.result =
+    let z = c.args.z in
+    let (m, e, h) = below_zero z c.ranges.z c.if-z-lt0.true in
+    signed_below z m e ∙ ap (λ (n : ℕ). 45 ∷ digits n) (sym (size))
+    in
     let a = c.args in
     let w = c.number_front-count.ensures in
-    rw (negative c.before.before.before.before.before.before.before) (sign_none (omega arith) (lent_put a.part.now 1 (omega arith) w) (omega arith) (digits_some _))
+    rw (negative) (sign_none (omega arith) (lent_put a.part.now 1 (omega arith) w) (omega arith) (digits_some _))
 
 pub bounds-part-0 : goal.bounds-part-0
 bounds-part-0 c =
@@ -44,12 +51,23 @@ overflow_add-result c =
 
 pub returns-then-z-lt0 : goal.returns-then-z-lt0
 returns-then-z-lt0 c =
+    let size : c.magnitude-n.result ≡ nat_abs c.args.z =
+    c.magnitude-n.ensures ∙ ap nat_abs (to_z-of_z c.ranges.z)
+    in
+    let negative : signed_digits c.args.z ≡ 45 ∷ digits c.magnitude-n.result =
+    let z = c.args.z in
+    let (m, e, h) = below_zero z c.ranges.z c.if-z-lt0.true in
+    signed_below z m e ∙ ap (λ (n : ℕ). 45 ∷ digits n) (sym (size))
+    in
     let a = c.args in
     let w = c.number_front-count.ensures in
-    rw (negative c.before.before.before.before.before.before.before) (sign_front (omega arith) (lent_put a.part.now 1 (omega arith) w) c.if-count-eq0.false)
+    rw (negative) (sign_front (omega arith) (lent_put a.part.now 1 (omega arith) w) c.if-count-eq0.false)
 
 pub returns : goal.returns
 returns c =
+    let size : c.magnitude-n.result ≡ nat_abs c.args.z =
+    c.magnitude-n.ensures ∙ ap nat_abs (to_z-of_z c.ranges.z)
+    in
     let z = c.args.z in
     let (m, e, h) = from_zero z c.ranges.z c.if-z-lt0.false in
-    rw (signed_from z m e ∙ ap digits (sym (size c.before.before.before.before.before.before))) c.number_front.ensures
+    rw (signed_from z m e ∙ ap digits (sym (size))) c.number_front.ensures

@@ -7,7 +7,7 @@ use Rattle.digits.proofs.width.put_eight.Goals as goal
 pub put_four-requires : goal.put_four-requires
 put_four-requires c =
     let (next, long) = width_put 4 _ (omega arith) c.put_four-next.ensures in
-    (omega arith, omega arith)
+    record { four_bound = omega arith; at_in_bounds = omega arith }
 
 pub returns : goal.returns
 returns c =

@@ -7,7 +7,7 @@ use Rattle.digits.proofs.width.put_four.Goals as goal
 pub put_two-requires : goal.put_two-requires
 put_two-requires c =
     let (next, long) = width_put 2 _ (omega arith) c.put_two-next.ensures in
-    (omega arith, omega arith)
+    record { two_bound = omega arith; at_in_bounds = omega arith }
 
 pub returns : goal.returns
 returns c =

@@ -7,7 +7,7 @@ use Rattle.digits.proofs.width.put_sixteen.Goals as goal
 pub put_eight-requires : goal.put_eight-requires
 put_eight-requires c =
     let (next, long) = width_put 8 _ (omega arith) c.put_eight-next.ensures in
-    (omega arith, omega arith)
+    record { eight_bound = omega arith; at_in_bounds = omega arith }
 
 pub returns : goal.returns
 returns c =

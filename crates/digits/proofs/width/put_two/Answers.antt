@@ -9,4 +9,4 @@ pub bounds-part-at-2 : goal.bounds-part-at-2
 bounds-part-at-2 c = rw (length-set _ _ _) (omega arith)
 
 pub returns : goal.returns
-returns c = two_put c.args.part.now c.args.at _ _ c.requires.1 c.args.two (omega arith) (omega arith) c.requires.0
+returns c = two_put c.args.part.now c.args.at _ _ c.requires.at_in_bounds c.args.two (omega arith) (omega arith) c.requires.two_bound

@@ -1,0 +1,70 @@
+-- The seconds before a date of the two hundred years are few enough that the difference from those
+-- before 2000, in nanoseconds, is an i64.
+-- the steps of the code, of a number of seconds in those years
+use mathlib.Core.Path.{◌≡◌, sym, ◌∙◌}
+use mathlib.Core.Bool.{true}
+use Prim.Native.Nat.{ℕ, ◌*◌, ◌<◌}
+use borrow.Author.Rules.{rules}
+use borrow.Author.Tests.{not-true, not-false}
+use lib.IntN.{pos, ◌-ℤ◌, ◌*ℤ◌}
+use mir.Syntax.{w64}
+use mir.Val.{SFits, of_z, to_z}
+use mir.Facts.{to_z-of_z}
+use Rattle.moment.proofs.Integers.{ints, dif, mul, widened}
+use Rattle.calendar.specs.Calendar.{exists}
+use Rattle.calendar.specs.Conversion.{moment_result}
+use Rattle.calendar.proofs.DateLaws.{parts, second_most}
+use Rattle.calendar.proofs.MomentLaws.{moment_is}
+use Rattle.calendar.proofs.convert.moment_of.Goals as goal
+
+pub returns-then-not-date_exists : goal.returns-then-not-date_exists
+unfolding moment_result
+returns-then-not-date_exists c = rw (sym c.date_exists.ensures ∙ c.if-not-date_exists.true)
+
+pub second_number-seconds-requires : goal.second_number-seconds-requires
+second_number-seconds-requires c =
+    let there : exists c.args.date ≡ true =
+    sym c.date_exists.ensures ∙ c.if-not-date_exists.false
+    in
+    there
+
+pub overflow_cast-seconds : goal.overflow_cast-seconds
+overflow_cast-seconds c =
+    let there : exists c.args.date ≡ true =
+    sym c.date_exists.ensures ∙ c.if-not-date_exists.false
+    in
+    let few : c.second_number-seconds.result < 73049 * 86400 =
+    omega (ints, c.second_number-seconds.ensures, second_most _ (parts _ (there)))
+    in
+    let h = few in omega ints
+
+pub overflow_sub-result : goal.overflow_sub-result
+overflow_sub-result c =
+    let there : exists c.args.date ≡ true =
+    sym c.date_exists.ensures ∙ c.if-not-date_exists.false
+    in
+    let few : c.second_number-seconds.result < 73049 * 86400 =
+    omega (ints, c.second_number-seconds.ensures, second_most _ (parts _ (there)))
+    in
+    from-2000 _ (few)
+
+pub overflow_mul-result : goal.overflow_mul-result
+overflow_mul-result c =
+    let there : exists c.args.date ≡ true =
+    sym c.date_exists.ensures ∙ c.if-not-date_exists.false
+    in
+    let few : c.second_number-seconds.result < 73049 * 86400 =
+    omega (ints, c.second_number-seconds.ensures, second_most _ (parts _ (there)))
+    in
+    in-nanoseconds _ (few)
+
+pub returns : goal.returns
+unfolding moment_result
+returns c =
+    let there : exists c.args.date ≡ true =
+    sym c.date_exists.ensures ∙ c.if-not-date_exists.false
+    in
+    let few : c.second_number-seconds.result < 73049 * 86400 =
+    omega (ints, c.second_number-seconds.ensures, second_most _ (parts _ (there)))
+    in
+    rw (there, result-is _ (few), moment_is, c.second_number-seconds.ensures)

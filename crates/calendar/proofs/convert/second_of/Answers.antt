@@ -1,0 +1,72 @@
+-- A negative moment is -(m + 1); -1 less it is m, whose whole seconds are counted back from -1.
+-- the steps of the code, of a negative z
+use mathlib.Core.Path.{◌≡◌, ◌∙◌}
+use Prim.Native.Nat.{ℕ, ◌<◌, ◌/◌, ◌^◌}
+use native.Mathlib.Omega.{arith}
+use lib.IntN.{ℤ, pos, negsuc, ◌-ℤ◌}
+use lib.Signed.{quot_z}
+use mir.Syntax.{w64}
+use mir.Val.{SFits, of_z, to_z}
+use mir.Facts.{to_z-of_z}
+use Rattle.moment.proofs.Integers.{ints, dif}
+use Rattle.calendar.specs.Conversion.{floor_second}
+use Rattle.calendar.proofs.MomentLaws.{below_zero, from_zero}
+use Rattle.calendar.proofs.convert.second_of.Goals as goal
+
+pub overflow_sub-result : goal.overflow_sub-result
+overflow_sub-result c =
+    let negative : (m : ℕ) × (c.args.moment ≡ negsuc m) × (m < 2 ^ 63) =
+    below_zero c.args.moment c.ranges.moment c.if-moment-lt0.true
+    in
+    let (m, e, h) = negative in
+    rw (to_z-of_z c.ranges.moment, e) (omega (ints, dif (negsuc 0) (negsuc m)))
+
+pub nonzero_div-result : goal.nonzero_div-result
+nonzero_div-result c =
+    let negative : (m : ℕ) × (c.args.moment ≡ negsuc m) × (m < 2 ^ 63) =
+    below_zero c.args.moment c.ranges.moment c.if-moment-lt0.true
+    in
+    let (m, e, h) = negative in
+    (omega arith, whole-fits c.args.moment c.ranges.moment m e h)
+
+pub overflow_sub-result-then-moment-lt0 : goal.overflow_sub-result-then-moment-lt0
+overflow_sub-result-then-moment-lt0 c =
+    let negative : (m : ℕ) × (c.args.moment ≡ negsuc m) × (m < 2 ^ 63) =
+    below_zero c.args.moment c.ranges.moment c.if-moment-lt0.true
+    in
+    let (m, e, h) = negative in
+    on_fits c.args.moment c.ranges.moment m e h
+
+pub returns-then-moment-lt0 : goal.returns-then-moment-lt0
+returns-then-moment-lt0 c =
+    let negative : (m : ℕ) × (c.args.moment ≡ negsuc m) × (m < 2 ^ 63) =
+    below_zero c.args.moment c.ranges.moment c.if-moment-lt0.true
+    in
+    let (m, e, h) = negative in
+    let z = c.args.moment in
+    let f = c.ranges.moment in
+    to_z-of_z (on_fits z f m e h) ∙ on-is z f m e h ∙ floor-is z f m e h
+
+-- and of one that is not negative
+module _ (z : ℤ) (f : SFits w64 z) (m : ℕ) (e : z ≡ pos m) (h : m < 2 ^ 63) where
+  quot_is : quot_z (to_z w64 (of_z w64 z)) (pos 1000000000) ≡ pos (m / 1000000000)
+  quot_is = rw (to_z-of_z f, e)
+
+  quot_fits : SFits w64 (quot_z (to_z w64 (of_z w64 z)) (pos 1000000000))
+  quot_fits = rw quot_is (record { sfits = omega arith })
+
+  quot-floor : pos (m / 1000000000) ≡ floor_second z
+  unfolding floor_second
+  quot-floor = rw e
+
+pub nonzero_div-result-2 : goal.nonzero_div-result-2
+nonzero_div-result-2 c =
+    let (m, e, h) = from_zero c.args.moment c.ranges.moment c.if-moment-lt0.false in
+    (omega arith, quot_fits c.args.moment c.ranges.moment m e h)
+
+pub returns : goal.returns
+returns c =
+    let z = c.args.moment in
+    let f = c.ranges.moment in
+    let (m, e, h) = from_zero z f c.if-moment-lt0.false in
+    to_z-of_z (quot_fits z f m e h) ∙ quot_is z f m e h ∙ quot-floor z f m e h
