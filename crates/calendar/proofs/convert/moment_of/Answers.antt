@@ -17,6 +17,22 @@ use Rattle.calendar.proofs.DateLaws.{parts, second_most}
 use Rattle.calendar.proofs.MomentLaws.{moment_is}
 use Rattle.calendar.proofs.convert.moment_of.Goals as goal
 
+module _ (s : ℕ) (h : s < 73049 * 86400) where
+  bits_is : to_z w64 s ≡ pos s
+  bits_is = widened s (omega ints)
+
+  from-2000 : SFits w64 (to_z w64 s -ℤ pos 3155673600)
+  from-2000 = rw bits_is (omega (ints, dif (pos s) (pos 3155673600)))
+
+  step_is : to_z w64 (of_z w64 (to_z w64 s -ℤ pos 3155673600)) ≡ pos s -ℤ pos 3155673600
+  step_is = to_z-of_z from-2000 ∙ rw bits_is
+
+  in-nanoseconds : SFits w64 (to_z w64 (of_z w64 (to_z w64 s -ℤ pos 3155673600)) *ℤ pos 1000000000)
+  in-nanoseconds = rw step_is (omega (ints, dif (pos s) (pos 3155673600), mul (pos s -ℤ pos 3155673600) 1000000000))
+
+  result-is : to_z w64 (of_z w64 (to_z w64 (of_z w64 (to_z w64 s -ℤ pos 3155673600)) *ℤ pos 1000000000)) ≡ (pos s -ℤ pos 3155673600) *ℤ pos 1000000000
+  result-is = to_z-of_z in-nanoseconds ∙ rw step_is
+
 pub returns-then-not-date_exists : goal.returns-then-not-date_exists
 unfolding moment_result
 returns-then-not-date_exists c = rw (sym c.date_exists.ensures ∙ c.if-not-date_exists.true)

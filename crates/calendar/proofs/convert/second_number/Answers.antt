@@ -36,3 +36,7 @@ pub overflow_add-days-2 : goal.overflow_add-days-2
 unfolding day_number
 overflow_add-days-2 c =
     omega (arith, day_most c.args.date (parts c.args.date c.requires), years_end)
+
+pub returns : goal.returns
+unfolding second_number day_number
+returns c = omega arith

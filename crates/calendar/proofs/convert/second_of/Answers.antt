@@ -13,6 +13,32 @@ use Rattle.calendar.specs.Conversion.{floor_second}
 use Rattle.calendar.proofs.MomentLaws.{below_zero, from_zero}
 use Rattle.calendar.proofs.convert.second_of.Goals as goal
 
+module _ (z : ℤ) (f : SFits w64 z) (m : ℕ) (e : z ≡ negsuc m) (h : m < 2 ^ 63) where
+  back_is : negsuc 0 -ℤ to_z w64 (of_z w64 z) ≡ pos m
+  back_is = rw (to_z-of_z f, e) (omega (ints, dif (negsuc 0) (negsuc m)))
+
+  back_fits : SFits w64 (negsuc 0 -ℤ to_z w64 (of_z w64 z))
+  back_fits = rw back_is (record { sfits = h })
+
+  back_read : to_z w64 (of_z w64 (negsuc 0 -ℤ to_z w64 (of_z w64 z))) ≡ pos m
+  back_read = to_z-of_z back_fits ∙ back_is
+
+  whole-fits : SFits w64 (quot_z (to_z w64 (of_z w64 (negsuc 0 -ℤ to_z w64 (of_z w64 z)))) (pos 1000000000))
+  whole-fits = rw back_read (record { sfits = omega arith })
+
+  whole-read : to_z w64 (of_z w64 (quot_z (to_z w64 (of_z w64 (negsuc 0 -ℤ to_z w64 (of_z w64 z)))) (pos 1000000000))) ≡ pos (m / 1000000000)
+  whole-read = to_z-of_z whole-fits ∙ rw back_read
+
+  on-is : negsuc 0 -ℤ to_z w64 (of_z w64 (quot_z (to_z w64 (of_z w64 (negsuc 0 -ℤ to_z w64 (of_z w64 z)))) (pos 1000000000))) ≡ negsuc (m / 1000000000)
+  on-is = rw whole-read (omega (ints, dif (negsuc 0) (pos (m / 1000000000))))
+
+  on_fits : SFits w64 (negsuc 0 -ℤ to_z w64 (of_z w64 (quot_z (to_z w64 (of_z w64 (negsuc 0 -ℤ to_z w64 (of_z w64 z)))) (pos 1000000000))))
+  on_fits = rw on-is (record { sfits = omega arith })
+
+  floor-is : negsuc (m / 1000000000) ≡ floor_second z
+  unfolding floor_second
+  floor-is = rw e
+
 pub overflow_sub-result : goal.overflow_sub-result
 overflow_sub-result c =
     let negative : (m : ℕ) × (c.args.moment ≡ negsuc m) × (m < 2 ^ 63) =

@@ -3,6 +3,7 @@ use mathlib.Core.Path.{sym, ◌∙◌}
 use mathlib.Core.Logic.{inl, inr}
 use borrow.Author.Rules.{rules}
 use Rattle.calendar.proofs.MonthLaws.{month_thirty, month_leap, month_common, month_long}
+use native.Mathlib.Omega.{arith}
 use Rattle.calendar.proofs.months.month_length.Goals as goal
 
 pub returns-in-4 : goal.returns-in-4
@@ -20,13 +21,13 @@ returns-else-is_leap c =
 
 pub returns-in_default : goal.returns-in_default
 returns-in_default c =
-    let not-thirty = c.in_default.rest.0.1 in
+    let not-thirty = c.in_default.in_default-own.rest.0.1 in
     sym
     (month_long
     c.args.year
     c.args.month
     c.requires.month_bound
-    c.in_default.rest.1
+    c.in_default.in_default-own.rest.1
     (λ e. not-thirty (inl e))
     (λ e. not-thirty (inr (inl e)))
     (λ e. not-thirty (inr (inr (inl e))))

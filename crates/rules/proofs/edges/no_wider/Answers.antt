@@ -8,7 +8,7 @@ use Rattle.rules.proofs.edges.no_wider.Goals as goal
 pub overflow_sub-wide : goal.overflow_sub-wide
 overflow_sub-wide c =
     let x = c.args in
-    let h = within_read x.reply c.requires.reply_value.0 in
+    let h = within_read x.reply c.requires.reply_value in
     rw (to_z-of_z (upper_fits x.reply h), to_z-of_z (lower_fits x.reply h)) (width_fits x.reply h)
 
 pub overflow_add-wide : goal.overflow_add-wide
@@ -21,7 +21,7 @@ pub overflow_add-wide-2 : goal.overflow_add-wide-2
 overflow_add-wide-2 c =
     let x = c.args in
     let s = c.requires.span in
-    let h = within_read x.reply c.requires.reply_value.0 in
+    let h = within_read x.reply c.requires.reply_value in
     rw (
       to_z-of_z (upper_fits x.reply h),
       to_z-of_z (lower_fits x.reply h),
@@ -33,7 +33,7 @@ overflow_add-wide-2 c =
 pub overflow_sub-result : goal.overflow_sub-result
 overflow_sub-result c =
     let x = c.args in
-    let k = within_read x.edges c.requires.reply_value.1 in
+    let k = within_read x.edges c.requires.edges_value in
     rw (to_z-of_z (upper_fits x.edges k), to_z-of_z (lower_fits x.edges k)) (width_fits x.edges k)
 
 pub returns : goal.returns
@@ -41,8 +41,8 @@ unfolding no_wider
 returns c =
     let x = c.args in
     let s = c.requires.span in
-    let h = within_read x.reply c.requires.reply_value.0 in
-    let k = within_read x.edges c.requires.reply_value.1 in
+    let h = within_read x.reply c.requires.reply_value in
+    let k = within_read x.edges c.requires.edges_value in
     rw (
       to_z-of_z (upper_fits x.reply h),
       to_z-of_z (lower_fits x.reply h),
