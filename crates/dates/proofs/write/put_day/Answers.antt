@@ -1,0 +1,31 @@
+-- Ten bytes, one part after the other.
+use mathlib.Core.Path.{refl}
+use native.Mathlib.Omega.{arith}
+use borrow.Author.Rules.{rules}
+use Rattle.dates.specs.DateText.{day_text}
+use Rattle.dates.proofs.PlacedLaws.{placed, placed_digits, placed_both}
+use Rattle.dates.proofs.write.put_day.Goals as goal
+
+pub put_two-at-requires : goal.put_two-at-requires
+put_two-at-requires c =
+    let p0 = placed_digits 4 _ (omega arith) c.put_four-at.ensures in
+    let p1 = placed 1 refl (omega (arith, p0.place, p0.same)) c.put_bytes-at.ensures in
+    omega (arith, p0.place, p0.same, p1.place, p1.same)
+
+pub put_two-requires : goal.put_two-requires
+put_two-requires c =
+    let p0 = placed_digits 4 _ (omega arith) c.put_four-at.ensures in
+    let p1 = placed 1 refl (omega (arith, p0.place, p0.same)) c.put_bytes-at.ensures in
+    let p2 = placed_digits 2 _ (omega (arith, p0.place, p0.same, p1.place, p1.same)) c.put_two-at.ensures in
+    let p3 = placed 1 refl (omega (arith, p0.place, p0.same, p1.place, p1.same, p2.place, p2.same)) c.put_bytes-at-2.ensures in
+    omega (arith, p0.place, p0.same, p1.place, p1.same, p2.place, p2.same, p3.place, p3.same)
+
+pub returns : goal.returns
+unfolding day_text
+returns c =
+    let p0 = placed_digits 4 _ (omega arith) c.put_four-at.ensures in
+    let p1 = placed 1 refl (omega (arith, p0.place, p0.same)) c.put_bytes-at.ensures in
+    let p2 = placed_digits 2 _ (omega (arith, p0.place, p0.same, p1.place, p1.same)) c.put_two-at.ensures in
+    let p3 = placed 1 refl (omega (arith, p0.place, p0.same, p1.place, p1.same, p2.place, p2.same)) c.put_bytes-at-2.ensures in
+    let p4 = placed_digits 2 _ (omega (arith, p0.place, p0.same, p1.place, p1.same, p2.place, p2.same, p3.place, p3.same)) c.put_two.ensures in
+    (placed_both (placed_both (placed_both (placed_both p0 p1 (omega arith)) p2 (omega arith)) p3 (omega arith)) p4 (omega arith)).put
