@@ -1,0 +1,24 @@
+-- The three tests are the definition's, in its order.
+use borrow.Author.Rules.{rules}
+use borrow.Author.Tests.{not-true, not-false}
+use mathlib.Core.Path.{sym, ◌∙◌}
+use mathlib.Core.Bool.{and-false}
+use Rattle.command.proofs.limits.start_within.Goals as goal
+
+pub returns-then-not-board_within : goal.returns-then-not-board_within
+returns-then-not-board_within c = rw (sym c.board_within.ensures ∙ c.if-not-board_within.true)
+
+pub returns-then-not-claim_within : goal.returns-then-not-claim_within
+returns-then-not-claim_within c =
+    rw (
+      sym c.board_within.ensures ∙ c.if-not-board_within.false,
+      sym c.claim_within.ensures ∙ c.if-not-claim_within.true,
+    )
+
+pub returns : goal.returns
+returns c =
+    rw (
+      c.edges_within.ensures,
+      sym c.board_within.ensures ∙ c.if-not-board_within.false,
+      sym c.claim_within.ensures ∙ c.if-not-claim_within.false,
+    )
