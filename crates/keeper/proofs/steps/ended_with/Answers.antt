@@ -1,0 +1,16 @@
+-- A bit that is set is at most the mask.
+use borrow.Author.Rules.{rules}
+use native.Mathlib.Omega.{arith}
+use Rattle.keeper.specs.Apply.{changed, ended}
+use Rattle.bits.proofs.BitLaws.{bit_le}
+use Rattle.keeper.proofs.steps.ended_with.Goals as goal
+
+pub overflow_sub-next : goal.overflow_sub-next
+overflow_sub-next c =
+    let x = c.args in
+    omega (arith, c.bit.ensures, bit_le x.keeper.waiting x.peer c.requires.peer_value)
+
+pub returns : goal.returns
+unfolding ended changed
+returns c =
+    rw c.bit.ensures

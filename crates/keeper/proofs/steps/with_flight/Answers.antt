@@ -1,0 +1,9 @@
+-- The two arrays are changed at the peer's place.
+use borrow.Author.Rules.{rules}
+use mathlib.Core.Path.{refl}
+use Rattle.keeper.specs.Apply.{with_flight}
+use Rattle.keeper.proofs.steps.with_flight.Goals as goal
+
+pub returns : goal.returns
+unfolding with_flight
+returns c = refl
