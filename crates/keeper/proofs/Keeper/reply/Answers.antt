@@ -75,7 +75,7 @@ bracket_of-bracket-requires c =
     let x = c.args in
     reply_found x.self x.peer x.tag x.edges (sym c.wait_refusal-number.ensures ∙ c.if-number-ne0.false)
     in
-    let f = found in (f.soon, f.within)
+    let f = found in record { w_le_longest_wait = f.soon; reply_value = f.within }
 
 pub judge-verdict-requires : goal.judge-verdict-requires
 unfolding state_of
@@ -87,16 +87,14 @@ judge-verdict-requires c =
     let x = c.args in
     let f = found in
     let o = c.outward_span-span in
-    rw (got o.result o.type_inv, o.ensures) (wait_span _ x.self.claim f.soon (omega arith), (f.within, (started_read x.self f.started).edges))
+    rw (got o.result o.type_inv, o.ensures) (record { span = wait_span _ x.self.claim f.soon (omega arith); reply_value = f.within; edges_value = (started_read x.self f.started).edges })
 
 pub returns-then-leaves_the_range : goal.returns-then-leaves_the_range
-unfolding first
-
-unfolding reply_verdict reply_bracket state_of
+unfolding first reply_verdict reply_bracket state_of
 returns-then-leaves_the_range c =
     let verdict-is : c.judge-verdict.result ≡ reply_verdict (state_of c.args.self) c.args.peer c.args.edges =
     let o = c.outward_span-span in
-    rw (c.judge-verdict.ensures, got o.result o.type-inv, o.ensures, c.bracket_of-bracket.ensures)
+    rw (c.judge-verdict.ensures, got o.result o.type_inv, o.ensures, c.bracket_of-bracket.ensures)
     in
     let x = c.args in
     let past = reply_past (state_of x.self) x.peer x.tag x.edges (sym c.wait_refusal-number.ensures ∙ c.if-number-ne0.false) in
@@ -112,16 +110,14 @@ replied_with-requires c =
     let x = c.args in
     let f = found in
     let s = started_read x.self f.started in
-    (f.small, (f.waits, omega (arith, s.count, s.requests)))
+    record { peer_bound = f.small; peer_value = f.waits; conflicts_le_most_requests = omega (arith, s.count, s.requests) }
 
 pub returns : goal.returns
-unfolding first accepted
-
-unfolding reply_verdict reply_bracket state_of
+unfolding first accepted reply_verdict reply_bracket state_of
 returns c =
     let verdict-is : c.judge-verdict.result ≡ reply_verdict (state_of c.args.self) c.args.peer c.args.edges =
     let o = c.outward_span-span in
-    rw (c.judge-verdict.ensures, got o.result o.type-inv, o.ensures, c.bracket_of-bracket.ensures)
+    rw (c.judge-verdict.ensures, got o.result o.type_inv, o.ensures, c.bracket_of-bracket.ensures)
     in
     let x = c.args in
     let past = reply_past (state_of x.self) x.peer x.tag x.edges (sym c.wait_refusal-number.ensures ∙ c.if-number-ne0.false) in

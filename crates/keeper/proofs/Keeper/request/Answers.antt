@@ -30,7 +30,7 @@ unfolding causes own_causes keeper_causes state_of
 asked_of-requires c =
     let x = c.args in
     let none = accepted_none (state_of x.self) (C.Request x.peer) (sym c.request_refusal-number.ensures ∙ c.if-number-ne0.false) in
-    (board_bound _ (not-false _ none.0), (leb-false _ _ none.1.1.1.1.0, none.1.1.1.0))
+    record { peer_bound = board_bound _ (not-false _ none.0); requests_lt_most_requests = leb-false _ _ none.1.1.1.1.0; peer_value = none.1.1.1.0 }
 
 pub returns : goal.returns
 unfolding accepted

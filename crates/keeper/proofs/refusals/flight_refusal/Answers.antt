@@ -19,9 +19,7 @@ returns-then-not-flight_within c =
     sym (own_holds _ (C.Flight x.peer x.out x.back) (sym c.flight_within.ensures ∙ c.if-not-flight_within.true))
 
 pub returns-then-number-ne0 : goal.returns-then-number-ne0
-unfolding keeper_causes
-
-unfolding refusal causes
+unfolding keeper_causes refusal causes
 returns-then-number-ne0 c =
     let past_own : refusal (state_of c.args.keeper) (C.Flight c.args.peer c.args.out c.args.back) ≡ first (keeper_causes (state_of c.args.keeper) (C.Flight c.args.peer c.args.out c.args.back)) =
     own_past _ (C.Flight c.args.peer c.args.out c.args.back) refl (sym c.flight_within.ensures ∙ c.if-not-flight_within.false)
@@ -31,33 +29,25 @@ returns-then-number-ne0 c =
     sym (past_own ∙ peer_holds (state_of x.keeper) x.peer _ (λ e. c.if-number-ne0.true (p ∙ e)) ∙ sym p)
 
 pub returns-then-bit_of : goal.returns-then-bit_of
-unfolding first state_of
-
-unfolding refusal causes
-
-unfolding keeper_causes
+unfolding first state_of refusal causes keeper_causes
 returns-then-bit_of c =
     let past_own : refusal (state_of c.args.keeper) (C.Flight c.args.peer c.args.out c.args.back) ≡ first (keeper_causes (state_of c.args.keeper) (C.Flight c.args.peer c.args.out c.args.back)) =
     own_past _ (C.Flight c.args.peer c.args.out c.args.back) refl (sym c.flight_within.ensures ∙ c.if-not-flight_within.false)
     in
     let past-peer : refusal (state_of c.args.keeper) (C.Flight c.args.peer c.args.out c.args.back) ≡ first (cause 6 ((state_of c.args.keeper).waits c.args.peer) ∷ []) =
     let x = c.args in
-    past_own ∙ peer_past (state_of x.keeper) x.peer _ (sym c.peer_refusal-number.ensures ∙ c.if-number-ne0.false)
+    past_own ∙ peer_past (state_of x.keeper) x.peer (cause 6 ((state_of c.args.keeper).waits c.args.peer) ∷ []) (sym c.peer_refusal-number.ensures ∙ c.if-number-ne0.false)
     in
     sym (past-peer ∙ rw (sym c.bit_of.ensures ∙ c.if-bit_of.true))
 
 pub returns-else-bit_of : goal.returns-else-bit_of
-unfolding first state_of
-
-unfolding refusal causes
-
-unfolding keeper_causes
+unfolding first state_of refusal causes keeper_causes
 returns-else-bit_of c =
     let past_own : refusal (state_of c.args.keeper) (C.Flight c.args.peer c.args.out c.args.back) ≡ first (keeper_causes (state_of c.args.keeper) (C.Flight c.args.peer c.args.out c.args.back)) =
     own_past _ (C.Flight c.args.peer c.args.out c.args.back) refl (sym c.flight_within.ensures ∙ c.if-not-flight_within.false)
     in
     let past-peer : refusal (state_of c.args.keeper) (C.Flight c.args.peer c.args.out c.args.back) ≡ first (cause 6 ((state_of c.args.keeper).waits c.args.peer) ∷ []) =
     let x = c.args in
-    past_own ∙ peer_past (state_of x.keeper) x.peer _ (sym c.peer_refusal-number.ensures ∙ c.if-number-ne0.false)
+    past_own ∙ peer_past (state_of x.keeper) x.peer (cause 6 ((state_of c.args.keeper).waits c.args.peer) ∷ []) (sym c.peer_refusal-number.ensures ∙ c.if-number-ne0.false)
     in
     sym (past-peer ∙ rw (sym c.bit_of.ensures ∙ c.if-bit_of.false))

@@ -52,7 +52,11 @@ returns-then-not-bit_of c =
     in
     let past-peer : let x = c.args in let s = state_of x.keeper in first (own_causes (C.Reply x.peer x.tag x.edges) ++ wait_causes s x.peer x.tag) ≡ first (cause 7 (not (s.waits x.peer && eqb x.tag (s.tag x.peer))) ∷ cause 8 (ltb longest_wait (waited s x.peer)) ∷ []) =
     let x = c.args in
-    past_own ∙ peer_past (state_of x.keeper) x.peer _ (sym c.peer_refusal-number.ensures ∙ c.if-number-ne0.false)
+    past_own
+    ∙ peer_past (state_of x.keeper) x.peer
+    (cause 7 (not ((state_of x.keeper).waits x.peer && eqb x.tag ((state_of x.keeper).tag x.peer)))
+    ∷ cause 8 (ltb longest_wait (waited (state_of x.keeper) x.peer)) ∷ [])
+    (sym c.peer_refusal-number.ensures ∙ c.if-number-ne0.false)
     in
     sym (past-peer ∙ rw (sym c.bit_of.ensures ∙ c.if-not-bit_of.true))
 
@@ -79,7 +83,11 @@ returns-then-tag-tags c =
     in
     let past-peer : let x = c.args in let s = state_of x.keeper in first (own_causes (C.Reply x.peer x.tag x.edges) ++ wait_causes s x.peer x.tag) ≡ first (cause 7 (not (s.waits x.peer && eqb x.tag (s.tag x.peer))) ∷ cause 8 (ltb longest_wait (waited s x.peer)) ∷ []) =
     let x = c.args in
-    past_own ∙ peer_past (state_of x.keeper) x.peer _ (sym c.peer_refusal-number.ensures ∙ c.if-number-ne0.false)
+    past_own
+    ∙ peer_past (state_of x.keeper) x.peer
+    (cause 7 (not ((state_of x.keeper).waits x.peer && eqb x.tag ((state_of x.keeper).tag x.peer)))
+    ∷ cause 8 (ltb longest_wait (waited (state_of x.keeper) x.peer)) ∷ [])
+    (sym c.peer_refusal-number.ensures ∙ c.if-number-ne0.false)
     in
     sym (past-peer ∙ rw (sym c.bit_of.ensures ∙ c.if-not-bit_of.false, ne_eqb _ _ c.if-tag-tags.true))
 
@@ -123,7 +131,11 @@ returns-then-keeper-sent_at-gt-LONGEST_WAIT c =
     in
     let past-peer : let x = c.args in let s = state_of x.keeper in first (own_causes (C.Reply x.peer x.tag x.edges) ++ wait_causes s x.peer x.tag) ≡ first (cause 7 (not (s.waits x.peer && eqb x.tag (s.tag x.peer))) ∷ cause 8 (ltb longest_wait (waited s x.peer)) ∷ []) =
     let x = c.args in
-    past_own ∙ peer_past (state_of x.keeper) x.peer _ (sym c.peer_refusal-number.ensures ∙ c.if-number-ne0.false)
+    past_own
+    ∙ peer_past (state_of x.keeper) x.peer
+    (cause 7 (not ((state_of x.keeper).waits x.peer && eqb x.tag ((state_of x.keeper).tag x.peer)))
+    ∷ cause 8 (ltb longest_wait (waited (state_of x.keeper) x.peer)) ∷ [])
+    (sym c.peer_refusal-number.ensures ∙ c.if-number-ne0.false)
     in
     sym
     (past-peer
@@ -145,7 +157,11 @@ returns c =
     in
     let past-peer : let x = c.args in let s = state_of x.keeper in first (own_causes (C.Reply x.peer x.tag x.edges) ++ wait_causes s x.peer x.tag) ≡ first (cause 7 (not (s.waits x.peer && eqb x.tag (s.tag x.peer))) ∷ cause 8 (ltb longest_wait (waited s x.peer)) ∷ []) =
     let x = c.args in
-    past_own ∙ peer_past (state_of x.keeper) x.peer _ (sym c.peer_refusal-number.ensures ∙ c.if-number-ne0.false)
+    past_own
+    ∙ peer_past (state_of x.keeper) x.peer
+    (cause 7 (not ((state_of x.keeper).waits x.peer && eqb x.tag ((state_of x.keeper).tag x.peer)))
+    ∷ cause 8 (ltb longest_wait (waited (state_of x.keeper) x.peer)) ∷ [])
+    (sym c.peer_refusal-number.ensures ∙ c.if-number-ne0.false)
     in
     sym
     (past-peer

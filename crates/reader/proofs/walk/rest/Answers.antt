@@ -1,4 +1,4 @@
--- `reader::walk::rest` meets its contract: a walk of its MIR, by hand. The struct is taken apart, and `parts_from` is called on the line and the place, with the word. All that the proof knows of `parts_from` is that it meets its contract.
+-- A walk of its MIR, by hand. The struct is taken apart, and `parts_from` is called on the line and the place, with the word. All that the proof knows of `parts_from` is that it meets its contract.
 -- The struct is Copy: what it owns is had twice, one copy is kept whole for the exit, and of the other what the line owns goes to the callee, beside the lifetime's token, which comes back. The word is plain data: what it owns is made anew.
 -- Assumes nothing.
 use mathlib.Core.Path.{◌≡◌, refl}
@@ -55,6 +55,7 @@ use Rattle.reader.specs.contracts.walk.rest.Key.{name as #reader·rest}
 use Rattle.reader.specs.contracts.walk.rest as rest
 use Rattle.reader.proofs.walk.rest.Statement as stated
 use Rattle.reader.proofs.walk.rest.Code as code
+use Rattle.reader.proofs.walk.rest.Goals as goal
 
 abbrev stayed : Stays (rest.ended).signature.params (rest.ended).kept
 stayed = (stay_none B yes, (stay_none (λ _. F.the_row) yes, tt))
@@ -145,11 +146,3 @@ rest_meets : {M : Type 1} {𝓤 : Ura M} (𝓛 : Logic 𝓤) (mem : Memory → S
     → Meets 𝓛 rest.signature (WpFn 𝓤 𝓛.H 𝓣.C 𝓣.Λ code.function) (rest.spec 𝓛 mem run)
 rest_meets {𝓤 = 𝓤} 𝓛 mem run 𝓣 known = walk_Meets 𝓛 rest.ended stayed (Goes-none 𝓛 1 B yes (λ κs x f. refl), (Goes-none 𝓛 1 (λ _. F.the_row) yes (λ κs x f. refl), tt)) (rest.clauses 𝓛 mem run) (WpFn 𝓤 𝓛.H 𝓣.C 𝓣.Λ code.function) (WpFn-mono 𝓤 𝓛.H 𝓛.laws 𝓣 code.function)
     (rest-walks 𝓛 mem run 𝓣.C 𝓣.Λ (fm_of 𝓤 𝓛.H 𝓛.laws 𝓣) known)
-
-pub rest-spec : {M : Type 1} → stated.statement M
-unfolding code.routine tables_of
-rest-spec 𝓤 𝓛 𝓜 𝓡 =
-    entered 𝓤 𝓛.H (triple_of 𝓛 rest.signature (rest.spec 𝓛 𝓜.mem 𝓡.run))
-    (tables 𝓤 𝓛.H 𝓜 𝓡 code.env).C (tables 𝓤 𝓛.H 𝓜 𝓡 code.env).Λ #reader·rest code.function (code.unfolded 𝓤 𝓛.H 𝓜 𝓡)
-    (rest_meets 𝓛 𝓜.mem 𝓡.run (tables_of 𝓤 𝓛.H 𝓜 (tables 𝓤 𝓛.H 𝓜 𝓡 code.env))
-    (cited 𝓤 𝓛.H (PartsFrom 𝓛 𝓜.mem 𝓡.run) 𝓜 𝓡 code.env #shapes·parts-from callee-def.routine code.calls-shapes::parts-from (callee-thm.met 𝓤 𝓛 𝓜 𝓡)))

@@ -1,4 +1,4 @@
--- `reader::walk::moved` meets its contract: a walk of its MIR, by hand. A struct is made anew of the slice that the one passed holds, and another number.
+-- A walk of its MIR, by hand. A struct is made anew of the slice that the one passed holds, and another number.
 -- The struct is Copy: what it owns is had twice, one copy is kept whole for the exit, and the other, with the facts of the number in the place of at's, is what the result owns.
 -- Assumes nothing.
 use mathlib.Core.Path.{refl}
@@ -39,6 +39,7 @@ use Rattle.reader.specs.contracts.walk.moved.Key.{name as #reader·moved}
 use Rattle.reader.specs.contracts.walk.moved as moved
 use Rattle.reader.proofs.walk.moved.Statement as stated
 use Rattle.reader.proofs.walk.moved.Code as code
+use Rattle.reader.proofs.walk.moved.Goals as goal
 
 abbrev stayed : Stays (moved.ended).signature.params (moved.ended).kept
 stayed = (stay_none B yes, (stay_none (λ _. usize) yes, tt))
@@ -89,10 +90,3 @@ module _ {M : Type 1} {𝓤 : Ura M} (𝓛 : Logic 𝓤) (mem : Memory → SProp
 moved-meets : {M : Type 1} {𝓤 : Ura M} (𝓛 : Logic 𝓤) → (mem : Memory → SProp 𝓤) (run : Routine → Fun 𝓤) (𝓣 : Tables 𝓤 𝓛.H)
     → Meets 𝓛 moved.signature (WpFn 𝓤 𝓛.H 𝓣.C 𝓣.Λ code.function) (moved.spec 𝓛 mem run)
 moved-meets {𝓤 = 𝓤} 𝓛 mem run 𝓣 = walk_Meets 𝓛 moved.ended stayed (Goes-none 𝓛 1 B yes (λ κs x f. refl), (Goes-none 𝓛 1 (λ _. usize) yes (λ κs x f. refl), tt)) (moved.clauses 𝓛 mem run) (WpFn 𝓤 𝓛.H 𝓣.C 𝓣.Λ code.function) (WpFn-mono 𝓤 𝓛.H 𝓛.laws 𝓣 code.function) (moved-walks 𝓛 mem run 𝓣.C 𝓣.Λ)
-
-pub moved-spec : {M : Type 1} → stated.statement M
-unfolding code.routine tables_of
-moved-spec 𝓤 𝓛 𝓜 𝓡 =
-    entered 𝓤 𝓛.H (triple_of 𝓛 moved.signature (moved.spec 𝓛 𝓜.mem 𝓡.run))
-    (tables 𝓤 𝓛.H 𝓜 𝓡 code.env).C (tables 𝓤 𝓛.H 𝓜 𝓡 code.env).Λ #reader·moved code.function (code.unfolded 𝓤 𝓛.H 𝓜 𝓡)
-    (moved-meets 𝓛 𝓜.mem 𝓡.run (tables_of 𝓤 𝓛.H 𝓜 (tables 𝓤 𝓛.H 𝓜 𝓡 code.env)))

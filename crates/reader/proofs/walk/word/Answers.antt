@@ -1,4 +1,4 @@
--- `reader::walk::word` meets its contract: a walk of its MIR, by hand. The struct is taken apart, and `form_word` is called on the line and the place. All that the proof knows of `form_word` is that it meets its contract.
+-- A walk of its MIR, by hand. The struct is taken apart, and `form_word` is called on the line and the place. All that the proof knows of `form_word` is that it meets its contract.
 -- The struct is Copy: what it owns is had twice, one copy is kept whole for the exit, and of the other what the line owns goes to the callee, beside the lifetime's token, which comes back.
 -- Assumes nothing.
 use mathlib.Core.Path.{◌≡◌, refl}
@@ -50,6 +50,7 @@ use Rattle.reader.specs.contracts.walk.word.Key.{name as #reader·word}
 use Rattle.reader.specs.contracts.walk.word as word
 use Rattle.reader.proofs.walk.word.Statement as stated
 use Rattle.reader.proofs.walk.word.Code as code
+use Rattle.reader.proofs.walk.word.Goals as goal
 
 abbrev stayed : Stays (word.ended).signature.params (word.ended).kept
 stayed = (stay_none B yes, tt)
@@ -133,11 +134,3 @@ word-meets : {M : Type 1} {𝓤 : Ura M} (𝓛 : Logic 𝓤) (mem : Memory → S
     → Meets 𝓛 word.signature (WpFn 𝓤 𝓛.H 𝓣.C 𝓣.Λ code.function) (word.spec 𝓛 mem run)
 word-meets {𝓤 = 𝓤} 𝓛 mem run 𝓣 known = walk_Meets 𝓛 word.ended stayed (Goes-none 𝓛 1 B yes (λ κs x f. refl), tt) (word.clauses 𝓛 mem run) (WpFn 𝓤 𝓛.H 𝓣.C 𝓣.Λ code.function) (WpFn-mono 𝓤 𝓛.H 𝓛.laws 𝓣 code.function)
     (word-walks 𝓛 mem run 𝓣.C 𝓣.Λ (fm_of 𝓤 𝓛.H 𝓛.laws 𝓣) known)
-
-pub word-spec : {M : Type 1} → stated.statement M
-unfolding code.routine tables_of
-word-spec 𝓤 𝓛 𝓜 𝓡 =
-    entered 𝓤 𝓛.H (triple_of 𝓛 word.signature (word.spec 𝓛 𝓜.mem 𝓡.run))
-    (tables 𝓤 𝓛.H 𝓜 𝓡 code.env).C (tables 𝓤 𝓛.H 𝓜 𝓡 code.env).Λ #reader·word code.function (code.unfolded 𝓤 𝓛.H 𝓜 𝓡)
-    (word-meets 𝓛 𝓜.mem 𝓡.run (tables_of 𝓤 𝓛.H 𝓜 (tables 𝓤 𝓛.H 𝓜 𝓡 code.env))
-    (cited 𝓤 𝓛.H (FormWord 𝓛 𝓜.mem 𝓡.run) 𝓜 𝓡 code.env #reader·form-word callee-def.routine code.calls-reader::words::form-word (callee-thm.met 𝓤 𝓛 𝓜 𝓡)))

@@ -1,4 +1,4 @@
--- `reader::read_shape` meets its contract: a walk of its MIR, by hand. The walk that `begin` returns is held in a local and passed, copied, to `word` and to `moved`, and what `moved` returns to `rest`. All that the proof knows of the four is that each meets its contract.
+-- A walk of its MIR, by hand. The walk that `begin` returns is held in a local and passed, copied, to `word` and to `moved`, and what `moved` returns to `rest`. All that the proof knows of the four is that each meets its contract.
 -- What `word` returns is written out as its two fields: `moved` is passed the second, and `rest` the first.
 -- In a local of a body MIR erases the lifetime of the struct's type, so its values are shown to have the type at `erased`: what the struct owns does not say the lifetime's name.
 -- Assumes nothing.
@@ -75,6 +75,7 @@ use Rattle.reader.specs.contracts.read_shape.Key.{name as #reader·read-shape}
 use Rattle.reader.specs.contracts.read_shape as f
 use Rattle.reader.proofs.read_shape.Statement as stated
 use Rattle.reader.proofs.read_shape.Code as code
+use Rattle.reader.proofs.read_shape.Goals as goal
 
 abbrev stayed : Stays (f.ended).signature.params (f.ended).kept
 stayed = (stay_none_slice (0 ∷ []) tt (plain (λ _. u8)) yes, tt)
@@ -239,14 +240,3 @@ read-shape-meets : {M : Type 1} {𝓤 : Ura M} (𝓛 : Logic 𝓤) (mem : Memory
     → Triple 𝓤 (𝓣.C #reader·rest) (Rest 𝓛 mem run) → Meets 𝓛 f.signature (WpFn 𝓤 𝓛.H 𝓣.C 𝓣.Λ code.function) (f.spec 𝓛 mem run)
 read-shape-meets {𝓤 = 𝓤} 𝓛 mem run 𝓣 kb kw km kr = walk_Meets 𝓛 f.ended stayed (Goes-none_slice 𝓛 1 (0 ∷ []) tt (plain (λ _. u8)) yes, tt) (f.clauses 𝓛 mem run) (WpFn 𝓤 𝓛.H 𝓣.C 𝓣.Λ code.function) (WpFn-mono 𝓤 𝓛.H 𝓛.laws 𝓣 code.function)
     (read-shape-walks 𝓛 mem run 𝓣.C 𝓣.Λ (fm_of 𝓤 𝓛.H 𝓛.laws 𝓣) kb kw km kr)
-
-pub read-shape-spec : {M : Type 1} → stated.statement M
-unfolding code.routine tables_of
-read-shape-spec 𝓤 𝓛 𝓜 𝓡 =
-    entered 𝓤 𝓛.H (triple_of 𝓛 f.signature (f.spec 𝓛 𝓜.mem 𝓡.run))
-    (tables 𝓤 𝓛.H 𝓜 𝓡 code.env).C (tables 𝓤 𝓛.H 𝓜 𝓡 code.env).Λ #reader·read-shape code.function (code.unfolded 𝓤 𝓛.H 𝓜 𝓡)
-    (read-shape-meets 𝓛 𝓜.mem 𝓡.run (tables_of 𝓤 𝓛.H 𝓜 (tables 𝓤 𝓛.H 𝓜 𝓡 code.env))
-    (cited 𝓤 𝓛.H (Begin 𝓛 𝓜.mem 𝓡.run) 𝓜 𝓡 code.env #reader·begin begin-def.routine code.calls-reader::walk::begin (begin-thm.met 𝓤 𝓛 𝓜 𝓡))
-    (cited 𝓤 𝓛.H (Word 𝓛 𝓜.mem 𝓡.run) 𝓜 𝓡 code.env #reader·word word-def.routine code.calls-reader::walk::word (word-thm.met 𝓤 𝓛 𝓜 𝓡))
-    (cited 𝓤 𝓛.H (Moved 𝓛 𝓜.mem 𝓡.run) 𝓜 𝓡 code.env #reader·moved moved-def.routine code.calls-reader::walk::moved (moved-thm.met 𝓤 𝓛 𝓜 𝓡))
-    (cited 𝓤 𝓛.H (Rest 𝓛 𝓜.mem 𝓡.run) 𝓜 𝓡 code.env #reader·rest rest-def.routine code.calls-reader::walk::rest (rest-thm.met 𝓤 𝓛 𝓜 𝓡)))

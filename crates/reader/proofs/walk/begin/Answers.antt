@@ -1,4 +1,4 @@
--- `reader::walk::begin` meets its contract: a walk of its MIR, by hand. A `Walk` is made of the slice passed and 0, in the result's local.
+-- A walk of its MIR, by hand. A `Walk` is made of the slice passed and 0, in the result's local.
 -- A `&[u8]` is Copy, so what it owns is had twice: once for line at exit, and once inside the result, beside the facts of at.
 -- Assumes nothing.
 use mathlib.Core.Path.{refl}
@@ -42,6 +42,7 @@ use Rattle.reader.specs.contracts.walk.begin.Key.{name as #reader·begin}
 use Rattle.reader.specs.contracts.walk.begin as begin
 use Rattle.reader.proofs.walk.begin.Statement as stated
 use Rattle.reader.proofs.walk.begin.Code as code
+use Rattle.reader.proofs.walk.begin.Goals as goal
 
 abbrev stayed : Stays (begin.ended).signature.params (begin.ended).kept
 stayed = (stay_none_slice (0 ∷ []) tt (plain (λ _. u8)) yes, tt)
@@ -91,10 +92,3 @@ module _ {M : Type 1} {𝓤 : Ura M} (𝓛 : Logic 𝓤) (mem : Memory → SProp
 begin-meets : {M : Type 1} {𝓤 : Ura M} (𝓛 : Logic 𝓤) → (mem : Memory → SProp 𝓤) (run : Routine → Fun 𝓤) (𝓣 : Tables 𝓤 𝓛.H)
     → Meets 𝓛 begin.signature (WpFn 𝓤 𝓛.H 𝓣.C 𝓣.Λ code.function) (begin.spec 𝓛 mem run)
 begin-meets {𝓤 = 𝓤} 𝓛 mem run 𝓣 = walk_Meets 𝓛 begin.ended stayed (Goes-none_slice 𝓛 1 (0 ∷ []) tt (plain (λ _. u8)) yes, tt) (begin.clauses 𝓛 mem run) (WpFn 𝓤 𝓛.H 𝓣.C 𝓣.Λ code.function) (WpFn-mono 𝓤 𝓛.H 𝓛.laws 𝓣 code.function) (begin-walks 𝓛 mem run 𝓣.C 𝓣.Λ)
-
-pub begin-spec : {M : Type 1} → stated.statement M
-unfolding code.routine tables_of
-begin-spec 𝓤 𝓛 𝓜 𝓡 =
-    entered 𝓤 𝓛.H (triple_of 𝓛 begin.signature (begin.spec 𝓛 𝓜.mem 𝓡.run))
-    (tables 𝓤 𝓛.H 𝓜 𝓡 code.env).C (tables 𝓤 𝓛.H 𝓜 𝓡 code.env).Λ #reader·begin code.function (code.unfolded 𝓤 𝓛.H 𝓜 𝓡)
-    (begin-meets 𝓛 𝓜.mem 𝓡.run (tables_of 𝓤 𝓛.H 𝓜 (tables 𝓤 𝓛.H 𝓜 𝓡 code.env)))
