@@ -1,3 +1,2 @@
 -- Laws about the definitions of specs/, and the grammar theorem.
 pub mod GrammarLaws
-pub mod Held

@@ -11,24 +11,6 @@ use Rattle.reader.proofs.GrammarLaws.{word_passed, word_taken}
 use borrow.Author.Rules.{rules}
 use Rattle.reader.proofs.words.form_word.Goals as goal
 
-abbrev line-1 : goal.In_default → List ℕ
-line-1 c = c.before.before.before.before.before.args.line.now
-
-abbrev at_1 : goal.In_default → ℕ
-at_1 c = c.before.before.before.before.before.args.at
-
-abbrev line-2 : goal.In_default-word_at → List ℕ
-line-2 c = line-1 c.before.before.before.before
-
-abbrev at-2 : goal.In_default-word_at → ℕ
-at-2 c = at_1 c.before.before.before.before
-
-abbrev line-3 : goal.In_default-word_at-2 → List ℕ
-line-3 c = line-2 c.before.before.before.before
-
-abbrev at-3 : goal.In_default-word_at-2 → ℕ
-at-3 c = at-2 c.before.before.before.before
-
 pub returns-in-After : goal.returns-in-After
 unfolding word_from
 returns-in-After c = sym (word_taken reply_shape (drop 1 shapes) _ _ _ (sym c.word_at.ensures ∙ c.in-After.is))
@@ -36,7 +18,7 @@ returns-in-After c = sym (word_taken reply_shape (drop 1 shapes) _ _ _ (sym c.wo
 pub returns-in-After-word_at : goal.returns-in-After-word_at
 unfolding word_from
 returns-in-After-word_at c =
-    let left-1 : word_from (line-1 c) (at_1 c) ≡ word_of (drop 1 shapes) (line-1 c) (at_1 c) =
+    let left-1 : word_from c.args.line.now c.args.at ≡ word_of (drop 1 shapes) c.args.line.now c.args.at =
     word_passed _ _ _ _ (sym c.word_at.ensures ∙ c.in_default.is)
     in
     sym (left-1 ∙ word_taken (numbered_shape N.Pass) (drop 2 shapes) _ _ _ (sym c.word_at-2.ensures ∙ c.in-After-word_at.is))
@@ -44,10 +26,10 @@ returns-in-After-word_at c =
 pub returns-in-After-word_at-2 : goal.returns-in-After-word_at-2
 unfolding word_from
 returns-in-After-word_at-2 c =
-    let left-1 : word_from (line-1 c) (at_1 c) ≡ word_of (drop 1 shapes) (line-1 c) (at_1 c) =
+    let left-1 : word_from c.args.line.now c.args.at ≡ word_of (drop 1 shapes) c.args.line.now c.args.at =
     word_passed _ _ _ _ (sym c.word_at.ensures ∙ c.in_default.is)
     in
-    let left-2 : word_from (line-2 c) (at-2 c) ≡ word_of (drop 2 shapes) (line-2 c) (at-2 c) =
+    let left-2 : word_from c.args.line.now c.args.at ≡ word_of (drop 2 shapes) c.args.line.now c.args.at =
     left-1 ∙ word_passed _ _ _ _ (sym c.word_at-2.ensures ∙ c.in_default-word_at.is)
     in
     sym (left-2 ∙ word_taken (numbered_shape N.Request) (drop 3 shapes) _ _ _ (sym c.word_at-3.ensures ∙ c.in-After-word_at-2.is))
@@ -55,13 +37,13 @@ returns-in-After-word_at-2 c =
 pub returns : goal.returns
 unfolding word_from
 returns c =
-    let left-1 : word_from (line-1 c) (at_1 c) ≡ word_of (drop 1 shapes) (line-1 c) (at_1 c) =
+    let left-1 : word_from c.args.line.now c.args.at ≡ word_of (drop 1 shapes) c.args.line.now c.args.at =
     word_passed _ _ _ _ (sym c.word_at.ensures ∙ c.in_default.is)
     in
-    let left-2 : word_from (line-2 c) (at-2 c) ≡ word_of (drop 2 shapes) (line-2 c) (at-2 c) =
+    let left-2 : word_from c.args.line.now c.args.at ≡ word_of (drop 2 shapes) c.args.line.now c.args.at =
     left-1 ∙ word_passed _ _ _ _ (sym c.word_at-2.ensures ∙ c.in_default-word_at.is)
     in
-    let left-3 : word_from (line-3 c) (at-3 c) ≡ word_of (drop 3 shapes) (line-3 c) (at-3 c) =
+    let left-3 : word_from c.args.line.now c.args.at ≡ word_of (drop 3 shapes) c.args.line.now c.args.at =
     left-2 ∙ word_passed _ _ _ _ (sym c.word_at-3.ensures ∙ c.in_default-word_at-2.is)
     in
     c.rare_word.ensures ∙ sym (left-3)

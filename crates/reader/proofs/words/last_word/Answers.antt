@@ -1,7 +1,7 @@
 -- The shapes' words are looked for in the definition's order.
 -- After each word that does not stand at the place: the line, the place, and the shapes that are left.
 use mathlib.Core.Path.{◌≡◌, sym, ◌∙◌}
-use mathlib.Core.List.{List}
+use mathlib.Core.List.{List, []}
 use Prim.Native.Nat.{ℕ}
 use lib.ListN.{drop}
 use Rattle.shapes.specs.Shapes.{window_shape, flight_shape, start_shape}
@@ -10,30 +10,12 @@ use Rattle.reader.proofs.GrammarLaws.{word_passed, word_taken}
 use borrow.Author.Rules.{rules}
 use Rattle.reader.proofs.words.last_word.Goals as goal
 
-abbrev line-1 : goal.In_default → List ℕ
-line-1 c = c.before.before.before.before.before.args.line.now
-
-abbrev at_1 : goal.In_default → ℕ
-at_1 c = c.before.before.before.before.before.args.at
-
-abbrev line-2 : goal.In_default-word_at → List ℕ
-line-2 c = line-1 c.before.before.before.before
-
-abbrev at-2 : goal.In_default-word_at → ℕ
-at-2 c = at_1 c.before.before.before.before
-
-abbrev line-3 : goal.In_default-word_at-2 → List ℕ
-line-3 c = line-2 c.before.before.before.before
-
-abbrev at-3 : goal.In_default-word_at-2 → ℕ
-at-3 c = at-2 c.before.before.before.before
-
 pub returns-in-After : goal.returns-in-After
 returns-in-After c = sym (word_taken window_shape (drop 1 last_shapes) _ _ _ (sym c.word_at.ensures ∙ c.in-After.is))
 
 pub returns-in-After-word_at : goal.returns-in-After-word_at
 returns-in-After-word_at c =
-    let left-1 : word_of last_shapes (line-1 c) (at_1 c) ≡ word_of (drop 1 last_shapes) (line-1 c) (at_1 c) =
+    let left-1 : word_of last_shapes c.args.line.now c.args.at ≡ word_of (drop 1 last_shapes) c.args.line.now c.args.at =
     word_passed _ _ _ _ (sym c.word_at.ensures ∙ c.in_default.is)
     in
     sym (left-1 ∙ word_taken flight_shape (drop 2 last_shapes) _ _ _ (sym c.word_at-2.ensures ∙ c.in-After-word_at.is))
@@ -41,23 +23,23 @@ returns-in-After-word_at c =
 pub returns-in_default-word_at-2 : goal.returns-in_default-word_at-2
 unfolding word_of
 returns-in_default-word_at-2 c =
-    let left-1 : word_of last_shapes (line-1 c) (at_1 c) ≡ word_of (drop 1 last_shapes) (line-1 c) (at_1 c) =
-    word_passed _ _ _ _ (sym c.word_at.ensures ∙ c.in_default.is)
+    let left-1 : word_of last_shapes c.args.line.now c.args.at ≡ word_of (drop 1 last_shapes) c.args.line.now c.args.at =
+    word_passed window_shape (drop 1 last_shapes) c.args.line.now c.args.at (sym c.word_at.ensures ∙ c.in_default.is)
     in
-    let left-2 : word_of last_shapes (line-2 c) (at-2 c) ≡ word_of (drop 2 last_shapes) (line-2 c) (at-2 c) =
-    left-1 ∙ word_passed _ _ _ _ (sym c.word_at-2.ensures ∙ c.in_default-word_at.is)
+    let left-2 : word_of last_shapes c.args.line.now c.args.at ≡ word_of (drop 2 last_shapes) c.args.line.now c.args.at =
+    left-1 ∙ word_passed flight_shape (drop 2 last_shapes) c.args.line.now c.args.at (sym c.word_at-2.ensures ∙ c.in_default-word_at.is)
     in
-    let left-3 : word_of last_shapes (line-3 c) (at-3 c) ≡ word_of (drop 3 last_shapes) (line-3 c) (at-3 c) =
-    left-2 ∙ word_passed _ _ _ _ (sym c.word_at-3.ensures ∙ c.in_default-word_at-2.is)
+    let left-3 : word_of last_shapes c.args.line.now c.args.at ≡ word_of (drop 3 last_shapes) c.args.line.now c.args.at =
+    left-2 ∙ word_passed start_shape [] c.args.line.now c.args.at (sym c.word_at-3.ensures ∙ c.in_default-word_at-2.is)
     in
     sym (left-3)
 
 pub returns : goal.returns
 returns c =
-    let left-1 : word_of last_shapes (line-1 c) (at_1 c) ≡ word_of (drop 1 last_shapes) (line-1 c) (at_1 c) =
+    let left-1 : word_of last_shapes c.args.line.now c.args.at ≡ word_of (drop 1 last_shapes) c.args.line.now c.args.at =
     word_passed _ _ _ _ (sym c.word_at.ensures ∙ c.in_default.is)
     in
-    let left-2 : word_of last_shapes (line-2 c) (at-2 c) ≡ word_of (drop 2 last_shapes) (line-2 c) (at-2 c) =
+    let left-2 : word_of last_shapes c.args.line.now c.args.at ≡ word_of (drop 2 last_shapes) c.args.line.now c.args.at =
     left-1 ∙ word_passed _ _ _ _ (sym c.word_at-2.ensures ∙ c.in_default-word_at.is)
     in
     sym (left-2 ∙ word_taken start_shape (drop 3 last_shapes) _ _ _ (sym c.word_at-3.ensures ∙ c.in-After-word_at-2.is))

@@ -12,53 +12,35 @@ use Rattle.reader.proofs.GrammarLaws.{word_passed, word_taken}
 use borrow.Author.Rules.{rules}
 use Rattle.reader.proofs.words.rare_word.Goals as goal
 
-abbrev line-1 : goal.In_default → List ℕ
-line-1 c = c.before.before.before.before.before.args.line.now
-
-abbrev at_1 : goal.In_default → ℕ
-at_1 c = c.before.before.before.before.before.args.at
-
-abbrev line-2 : goal.In_default-word_at → List ℕ
-line-2 c = line-1 c.before.before.before.before
-
-abbrev at-2 : goal.In_default-word_at → ℕ
-at-2 c = at_1 c.before.before.before.before
-
-abbrev line-3 : goal.In_default-word_at-2 → List ℕ
-line-3 c = line-2 c.before.before.before.before
-
-abbrev at-3 : goal.In_default-word_at-2 → ℕ
-at-3 c = at-2 c.before.before.before.before
-
 pub returns-in-After : goal.returns-in-After
 returns-in-After c = sym (word_taken (bare_shape B.Read) (drop 1 rare_shapes) _ _ _ (sym c.word_at.ensures ∙ c.in-After.is))
 
 pub returns-in-After-word_at : goal.returns-in-After-word_at
 returns-in-After-word_at c =
-    let left-1 : word_of rare_shapes (line-1 c) (at_1 c) ≡ word_of (drop 1 rare_shapes) (line-1 c) (at_1 c) =
+    let left-1 : word_of rare_shapes c.args.line.now c.args.at ≡ word_of (drop 1 rare_shapes) c.args.line.now c.args.at =
     word_passed _ _ _ _ (sym c.word_at.ensures ∙ c.in_default.is)
     in
     sym (left-1 ∙ word_taken (numbered_shape N.Drop) (drop 2 rare_shapes) _ _ _ (sym c.word_at-2.ensures ∙ c.in-After-word_at.is))
 
 pub returns-in-After-word_at-2 : goal.returns-in-After-word_at-2
 returns-in-After-word_at-2 c =
-    let left-1 : word_of rare_shapes (line-1 c) (at_1 c) ≡ word_of (drop 1 rare_shapes) (line-1 c) (at_1 c) =
+    let left-1 : word_of rare_shapes c.args.line.now c.args.at ≡ word_of (drop 1 rare_shapes) c.args.line.now c.args.at =
     word_passed _ _ _ _ (sym c.word_at.ensures ∙ c.in_default.is)
     in
-    let left-2 : word_of rare_shapes (line-2 c) (at-2 c) ≡ word_of (drop 2 rare_shapes) (line-2 c) (at-2 c) =
+    let left-2 : word_of rare_shapes c.args.line.now c.args.at ≡ word_of (drop 2 rare_shapes) c.args.line.now c.args.at =
     left-1 ∙ word_passed _ _ _ _ (sym c.word_at-2.ensures ∙ c.in_default-word_at.is)
     in
     sym (left-2 ∙ word_taken (bare_shape B.Waiting) (drop 3 rare_shapes) _ _ _ (sym c.word_at-3.ensures ∙ c.in-After-word_at-2.is))
 
 pub returns : goal.returns
 returns c =
-    let left-1 : word_of rare_shapes (line-1 c) (at_1 c) ≡ word_of (drop 1 rare_shapes) (line-1 c) (at_1 c) =
+    let left-1 : word_of rare_shapes c.args.line.now c.args.at ≡ word_of (drop 1 rare_shapes) c.args.line.now c.args.at =
     word_passed _ _ _ _ (sym c.word_at.ensures ∙ c.in_default.is)
     in
-    let left-2 : word_of rare_shapes (line-2 c) (at-2 c) ≡ word_of (drop 2 rare_shapes) (line-2 c) (at-2 c) =
+    let left-2 : word_of rare_shapes c.args.line.now c.args.at ≡ word_of (drop 2 rare_shapes) c.args.line.now c.args.at =
     left-1 ∙ word_passed _ _ _ _ (sym c.word_at-2.ensures ∙ c.in_default-word_at.is)
     in
-    let left-3 : word_of rare_shapes (line-3 c) (at-3 c) ≡ word_of (drop 3 rare_shapes) (line-3 c) (at-3 c) =
+    let left-3 : word_of rare_shapes c.args.line.now c.args.at ≡ word_of (drop 3 rare_shapes) c.args.line.now c.args.at =
     left-2 ∙ word_passed _ _ _ _ (sym c.word_at-3.ensures ∙ c.in_default-word_at-2.is)
     in
     c.last_word.ensures ∙ sym (left-3)

@@ -1,0 +1,11 @@
+-- The numbers before the next one were read, and the others are 0.
+use Prim.Native.Nat.{◌-◌}
+use native.Mathlib.Omega.{arith}
+use Rattle.image.proofs.LoadLaws.{Loaded, loaded_none, loaded_more, loaded_all}
+use Rattle.image.proofs.load.load_16_4.Given as goal
+
+abbrev pub invariant-loop-p : goal.invariant-loop-p
+invariant-loop-p l = Loaded 4 l.at l.p l.image l.loaded
+
+abbrev pub decreases-loop-p : goal.decreases-loop-p
+decreases-loop-p l = 16 - l.p

@@ -1,0 +1,11 @@
+-- The numbers before the next one were put.
+use Prim.Native.Nat.{◌-◌}
+use native.Mathlib.Omega.{arith}
+use Rattle.image.proofs.StoreLaws.{Filled, filled_none, filled_more, filled_length, filled_all}
+use Rattle.image.proofs.store.store_counts.Given as goal
+
+abbrev pub invariant-loop-p : goal.invariant-loop-p
+invariant-loop-p l = Filled 8 l.at l.p l.counts l.initial.image l.image
+
+abbrev pub decreases-loop-p : goal.decreases-loop-p
+decreases-loop-p l = 16 - l.p
