@@ -10,10 +10,10 @@ use Rattle.image.proofs.load.load_all.Goals as goal
 pub returns : goal.returns
 unfolding keeper_at
 returns c =
-    let lower : _ = c.LOST.before.before.before.before.before.before.before.before.before.before.Signed-of.ensures ∙ ap (to_z w64) c.load_8.ensures in
+    let lower : _ = c.signed_of.ensures ∙ ap (to_z w64) c.load_8.ensures in
     let upper : _ = c.signed_of-2.ensures ∙ ap (to_z w64) c.load_8-2.ensures in
     rw (
-      got c.LOST.before.before.before.before.before.before.before.before.before.before.Signed-of.result (search rules),
+      got c.signed_of.result (search rules),
       got c.signed_of-2.result (search rules),
       lower,
       upper,

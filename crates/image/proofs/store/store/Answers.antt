@@ -21,18 +21,18 @@ pub store_own-requires : goal.store_own-requires
 store_own-requires c = eqb-true _ _ (sym c.is_image.ensures ∙ c.if-not-is_image.false)
 
 pub store_peers-requires : goal.store_peers-requires
-store_peers-requires c = c.store_own.auto.0 ∙ eqb-true _ _ (sym c.is_image.ensures ∙ c.if-not-is_image.false)
+store_peers-requires c = c.store_own.auto.image ∙ eqb-true _ _ (sym c.is_image.ensures ∙ c.if-not-is_image.false)
 
 pub store_flights-requires : goal.store_flights-requires
 store_flights-requires c =
-    c.store_peers.auto.0
-    ∙ c.store_own.auto.0
+    c.store_peers.auto.image
+    ∙ c.store_own.auto.image
     ∙ eqb-true _ _ (sym c.is_image.ensures ∙ c.if-not-is_image.false)
 
 pub returns : goal.returns
 unfolding image_after image_of lowest_first
 returns c =
-    let x = c.LOST.before.before.before.before.before.before.before.before.before.before.before.before.before.before.before.before.args in
+    let x = c.args in
     let l = x.image.now in
     let k = x.keeper in
     let long = sym c.is_image.ensures ∙ c.if-not-is_image.false in

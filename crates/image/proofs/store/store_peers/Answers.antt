@@ -12,9 +12,9 @@ use Rattle.image.proofs.store.store_peers.Goals as goal
 
 pub returns : goal.returns
 returns c =
-    let x = c.LOST.before.before.before.before.before.before.before.before.before.before.before.before.before.before.before.args in
+    let x = c.args in
     let l = x.image.now in
-    let k = x.t2 in
+    let k = x.keeper in
     let sixteen : length k.tags ≡ 16 = search rules in
     let place : 104 ≡ 40 + length (each_lowest_first 4 k.tags) = omega (arith, length_each 4 k.tags, sixteen) in
     c.store_counts.ensures
