@@ -3,16 +3,17 @@
  *
  * The library is three archives for x86-64 Linux, the only target that the kit
  * builds for. For any other target this header stops the compiler.
- *   - target/staticlib/libboardtime_lib.a has the calls on an image, for a
- *     board: boardtime_fresh, boardtime_line and boardtime_pass. The command
- *     `rt staticlib boardtime_lib` proves and builds it.
- *   - target/staticlib/libboardtime_uplink.a has the calls that write a line,
- *     for who sends lines: boardtime_plain and those whose names begin with
- *     boardtime_write. `rt staticlib boardtime_uplink` proves and builds it.
- *   - target/staticlib/libboardtime_dates.a has the calls that convert dates
- *     and moments, for boards and who sends lines alike: boardtime_moment_of
- *     and boardtime_date_of. `rt staticlib boardtime_dates` proves and builds
- *     it.
+ *   - crates/boardtime_lib/out/libboardtime_lib.a has the calls on an image,
+ *     for a board: boardtime_fresh, boardtime_line and boardtime_pass. The
+ *     command `rt lib` in crates/boardtime_lib proves and builds it.
+ *   - crates/boardtime_uplink/out/libboardtime_uplink.a has the calls that
+ *     write a line, for who sends lines: boardtime_plain and those whose names
+ *     begin with boardtime_write. `rt lib` in crates/boardtime_uplink proves
+ *     and builds it.
+ *   - crates/boardtime_dates/out/libboardtime_dates.a has the calls that
+ *     convert dates and moments, for boards and who sends lines alike:
+ *     boardtime_moment_of and boardtime_date_of. `rt lib` in
+ *     crates/boardtime_dates proves and builds it.
  * No archive needs another. A program links those that have its calls, in any
  * order.
  *

@@ -1,15 +1,14 @@
 //! Links libboardtime_lib.a, libboardtime_uplink.a and libboardtime_dates.a from
-//! the folder in BOARDTIME_LIB_DIR, or else from the repository's
-//! target/staticlib, where `rt staticlib boardtime_lib`, `rt staticlib
-//! boardtime_uplink` and `rt staticlib boardtime_dates` write them. Refuses every
-//! target but the one that the archives are for.
+//! the folder in BOARDTIME_LIB_DIR, or else each from where `rt lib` writes it: the
+//! folder out/ of its crate, as crates/boardtime_lib/out. Refuses every target but
+//! the one that the archives are for.
 
 use std::env;
 use std::path::{Path, PathBuf};
 use std::process;
 
 const FOLDER: &str = "BOARDTIME_LIB_DIR";
-/// Each is the archive lib...a, and `rt staticlib` builds it by this name.
+/// Each is the archive lib...a, and the name of its crate.
 const ARCHIVES: [&str; 3] = ["boardtime_lib", "boardtime_uplink", "boardtime_dates"];
 /// What cargo says of x86-64 Linux. The width of a pointer tells it from x32.
 const TARGET: [(&str, &str); 3] = [
@@ -19,7 +18,6 @@ const TARGET: [(&str, &str); 3] = [
 ];
 
 fn main() {
-    let folder = folder();
     println!("cargo:rerun-if-env-changed={FOLDER}");
     if TARGET.iter().any(|(name, value)| variable(name) != *value) {
         refuse(&format!(
@@ -27,27 +25,28 @@ fn main() {
             variable("TARGET")
         ));
     }
-    println!("cargo:rustc-link-search=native={}", folder.display());
     for name in ARCHIVES {
-        link(name, &folder);
+        link(name);
     }
 }
 
-fn link(name: &str, folder: &Path) {
+fn link(name: &str) {
+    let folder = folder(name);
     let archive = folder.join(format!("lib{name}.a"));
     println!("cargo:rerun-if-changed={}", archive.display());
     if !archive.is_file() {
         refuse(&format!(
-            "{} does not exist: run `rt staticlib {name}`, or name its folder in {FOLDER}",
+            "{} does not exist: run `rt lib` in crates/{name}, or name its folder in {FOLDER}",
             archive.display()
         ));
     }
+    println!("cargo:rustc-link-search=native={}", folder.display());
     println!("cargo:rustc-link-lib=static={name}");
 }
 
 /// A relative path begins at the folder of this package.
-fn folder() -> PathBuf {
-    let named = env::var_os(FOLDER).unwrap_or_else(|| "../target/staticlib".into());
+fn folder(name: &str) -> PathBuf {
+    let named = env::var_os(FOLDER).unwrap_or_else(|| format!("../crates/{name}/out").into());
     Path::new(&variable("CARGO_MANIFEST_DIR")).join(named)
 }
 

@@ -50,7 +50,7 @@ impl Program {
         let Some(name) = env::var_os(VARIABLE) else {
             return Err(format!(
                 "{VARIABLE} is not set; it names the program boardtime, such as \
-                 target/bin/boardtime"
+                 crates/boardtime/out/boardtime"
             ));
         };
         // A full path, because a bare name would be looked for elsewhere.
