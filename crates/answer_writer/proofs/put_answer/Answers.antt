@@ -1,0 +1,43 @@
+-- In each arm the answer is the case that the line is of.
+use borrow.Author.Rules.{rules}
+use Rattle.moment.proofs.Integers.{got}
+use Rattle.answers.proofs.LineLaws.{by_line}
+use Rattle.answers.proofs.WaitersLaws.{list_put}
+use Rattle.answer_writer.proofs.put_answer.Goals as goal
+
+pub returns-in-Started : goal.returns-in-Started
+returns-in-Started c = by_line c.in-Started.is c.started_line.ensures
+
+pub returns-in-At : goal.returns-in-At
+returns-in-At c = by_line c.in-At.is c.at_line.ensures
+
+pub returns-in-Sent : goal.returns-in-Sent
+returns-in-Sent c = by_line c.in-Sent.is c.sent_line.ensures
+
+pub returns-in-Replied : goal.returns-in-Replied
+returns-in-Replied c = by_line c.in-Replied.is c.replied_line.ensures
+
+pub returns-in-Dropped : goal.returns-in-Dropped
+returns-in-Dropped c = by_line c.in-Dropped.is c.dropped_line.ensures
+
+pub returns-in-Time : goal.returns-in-Time
+returns-in-Time c =
+    let a = c.answer-in-Time-1.given in
+    let t = c.known_told-in-Time-1.given in
+    let f = c.time_line.ensures in
+    by_line a.1 (rw (got a.0.1.0 t.1.0.1, got a.0.1.1.0 t.1.1.0.1) at f)
+
+pub returns-in-Waiting : goal.returns-in-Waiting
+returns-in-Waiting c =
+    let k = c.args.keeper in
+    let is = c.in-Waiting.is in
+    record { put = λ h. rw is (list_put k (h is) c.waiting_line.ensures) }
+
+pub returns-in-Heater : goal.returns-in-Heater
+returns-in-Heater c = by_line c.in-Heater.is c.heater_line.ensures
+
+pub returns-in-Flight : goal.returns-in-Flight
+returns-in-Flight c = by_line c.in-Flight.is c.flight_line.ensures
+
+pub returns-in-Refused : goal.returns-in-Refused
+returns-in-Refused c = by_line c.in-Refused.is c.put_refusal.ensures
