@@ -22,10 +22,9 @@ returns-in-Dropped c = by_line c.in-Dropped.is c.dropped_line.ensures
 
 pub returns-in-Time : goal.returns-in-Time
 returns-in-Time c =
-    let a = c.answer-in-Time-1.given in
-    let t = c.known_told-in-Time-1.given in
-    let f = c.time_line.ensures in
-    by_line a.1 (rw (got a.0.1.0 t.1.0.1, got a.0.1.1.0 t.1.1.0.1) at f)
+    let centre = got c.in-Time.centre (search rules) in
+    let error = got c.in-Time.error (search rules) in
+    by_line c.in-Time.is (rw (centre, error) at c.time_line.ensures)
 
 pub returns-in-Waiting : goal.returns-in-Waiting
 returns-in-Waiting c =
