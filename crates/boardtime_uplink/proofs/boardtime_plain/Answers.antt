@@ -1,0 +1,13 @@
+-- What the line is read as is written back, and handed back as one number.
+use mathlib.Core.Path.{sym}
+use borrow.Author.Rules.{rules}
+use Rattle.writer.proofs.CommandLaws.{reading_written, reading_bounded}
+use Rattle.boardtime_uplink.proofs.CommandLaws.{length_fits, returns_it}
+use Rattle.boardtime_uplink.proofs.boardtime_plain.Goals as goal
+
+pub returned-requires : goal.returned-requires
+returned-requires c = length_fits c.write_reading-written.ensures (reading_bounded _ _).1
+
+pub returns : goal.returns
+returns c =
+    returns_it (reading_written _ (sym c.read_command-reading.ensures) c.write_reading-written.ensures) c.returned.ensures

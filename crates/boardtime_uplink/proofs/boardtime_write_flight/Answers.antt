@@ -1,0 +1,11 @@
+-- Its form is written, and handed back as one number.
+use borrow.Author.Rules.{rules}
+use Rattle.form_lines.proofs.WrittenLaws.{form_bounded}
+use Rattle.boardtime_uplink.proofs.CommandLaws.{length_fits, returns_it}
+use Rattle.boardtime_uplink.proofs.boardtime_write_flight.Goals as goal
+
+pub returned-requires : goal.returned-requires
+returned-requires c = length_fits c.write_flight-written.ensures (form_bounded _ _).1
+
+pub returns : goal.returns
+returns c = returns_it c.write_flight-written.ensures c.returned.ensures
