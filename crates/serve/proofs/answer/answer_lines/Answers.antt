@@ -23,6 +23,7 @@ use Rattle.serve.specs.Serving.{Answered}
 use Rattle.serve.proofs.PutBackLaws.{put_back_same}
 use Rattle.serve.proofs.ServingLaws.{Step, none_answered, part_room, line_answered, filled_within, stopped_full, stopped_done}
 use Rattle.serve.proofs.answer.answer_lines.Goals as goal
+use Rattle.serve.proofs.answer.answer_lines.Goals.{in-Accepted, in-NoShape, in-OutsideLimits, then-number_of-eq0, else-number_of-eq0, else-loop-at-test, then-loop-at-test+then-out-filled-lt-LEAST_OUTPUT}
 
 pub loop-at-init : goal.loop-at-init
 loop-at-init c =
@@ -31,79 +32,72 @@ loop-at-init c =
 pub apply_command-outcome-requires : goal.apply_command-outcome-requires
 apply_command-outcome-requires c = c.loop-at.invariant.4
 
--- the line of a turn
-abbrev line : (c : goal.Joined-reading) → List ℕ
-line c =
-    let k = c.loop-at in
-    take (k.at - k.next) (drop k.next c.args.bytes.now)
-
-abbrev before : (c : goal.Joined-reading) → Keeper
-before c = c.loop-at.now
-
 outcome-made : {a b : Answer} {k l : Keeper} → k ≡ l → a ≡ b → outcome_of a k ≡ outcome_of b l
 outcome-made e f = rw (e, f)
 
 pub write_answer-length-requires : goal.write_answer-length-requires
 unfolding answered
 write_answer-length-requires c =
-    let outcome-is : outcome_of c.match-reading.answer c.match-reading.now ≡ answered (before c) (line c) =
-    let by : (r : Reading) → c.read_command-reading.result ≡ r → by_reading r (before c) ≡ by_reading (reading_of (line c)) (before c) =
-    λ r e. ap (λ (x : Reading). by_reading x (before c)) (sym e ∙ c.read_command-reading.ensures) in
-    ⊎_elim
-    (λ w. outcome-made (w.5 ∙ w.4.ensures ∙ put_back_same _ _ w.3.ensures) w.6 ∙ w.3.ensures ∙ by _ w.1.given.1)
-    (⊎_elim (λ w. outcome-made w.2 w.3 ∙ by _ w.1.given.1) (λ w. outcome-made w.2 w.3 ∙ by _ w.1.given.1))
-    c.match-reading.branch-raw
+    let outcome-is : outcome_of c.match-reading.answer c.match-reading.now ≡ answered c.loop-at.now (take (c.loop-at.at - c.loop-at.next) (drop c.loop-at.next c.args.bytes.now)) =
+    let by : (r : Reading) → c.read_command-reading.result ≡ r → by_reading r c.loop-at.now ≡ by_reading (reading_of (take (c.loop-at.at - c.loop-at.next) (drop c.loop-at.next c.args.bytes.now))) c.loop-at.now =
+    λ r e. ap (λ (x : Reading). by_reading x c.loop-at.now) (sym e ∙ c.read_command-reading.ensures) in
+    elim c.match-reading.branch [
+      | in-Accepted w ↦ outcome-made (w.now-is ∙ w.put_back-now.ensures ∙ put_back_same _ _ w.apply_command-outcome.ensures) w.answer-is ∙ w.apply_command-outcome.ensures ∙ by _ w.in-Accepted.is
+      | in-NoShape w ↦ outcome-made w.now-is w.answer-is ∙ by _ w.in-NoShape.is
+      | in-OutsideLimits w ↦ outcome-made w.now-is w.answer-is ∙ by _ w.in-OutsideLimits.is
+    ]
     in
     let k = c.loop-at in
     let same = outcome-is in (
       part_room k.out k.filled c.if-out-filled-lt-LEAST_OUTPUT.false,
-      λ h. ap (λ (o : Outcome). counts_as_started o.keeper) same ∙ listed (before c.before.before.before) (line c.before.before.before) (sym (ap (λ (o : Outcome). o.answer) same) ∙ h),
+      λ h. ap (λ (o : Outcome). counts_as_started o.keeper) same ∙ listed c.loop-at.now (take (c.loop-at.at - c.loop-at.next) (drop c.loop-at.next c.args.bytes.now)) (sym (ap (λ (o : Outcome). o.answer) same) ∙ h),
     )
 
 pub overflow_add-filled : goal.overflow_add-filled
 overflow_add-filled c =
     let w = c.write_answer-length in
     let k = c.loop-at in
-    let within = filled_within k.out k.filled k.invariant.1 w.auto.0 w.ensures in
-    omega (arith, k.invariant.0, c.LOST.before.before.before.before.before.before.before.before.before.before.before.before.before.before.before.before.well-formed)
+    let within = filled_within k.out k.filled k.invariant.1 w.auto.out w.ensures in
+    omega (arith, k.invariant.0, c.well_formed)
 
 pub loop-at-preserved : goal.loop-at-preserved
 unfolding answered
 loop-at-preserved c =
-    let outcome-is : outcome_of c.match-reading.answer c.match-reading.now ≡ answered (before c) (line c) =
-    let by : (r : Reading) → c.read_command-reading.result ≡ r → by_reading r (before c) ≡ by_reading (reading_of (line c)) (before c) =
-    λ r e. ap (λ (x : Reading). by_reading x (before c)) (sym e ∙ c.read_command-reading.ensures) in
-    ⊎_elim
-    (λ w. outcome-made (w.5 ∙ w.4.ensures ∙ put_back_same _ _ w.3.ensures) w.6 ∙ w.3.ensures ∙ by _ w.1.given.1)
-    (⊎_elim (λ w. outcome-made w.2 w.3 ∙ by _ w.1.given.1) (λ w. outcome-made w.2 w.3 ∙ by _ w.1.given.1))
-    c.match-reading.branch-raw
+    let outcome-is : outcome_of c.match-reading.answer c.match-reading.now ≡ answered c.loop-at.now (take (c.loop-at.at - c.loop-at.next) (drop c.loop-at.next c.args.bytes.now)) =
+    let by : (r : Reading) → c.read_command-reading.result ≡ r → by_reading r c.loop-at.now ≡ by_reading (reading_of (take (c.loop-at.at - c.loop-at.next) (drop c.loop-at.next c.args.bytes.now))) c.loop-at.now =
+    λ r e. ap (λ (x : Reading). by_reading x c.loop-at.now) (sym e ∙ c.read_command-reading.ensures) in
+    elim c.match-reading.branch [
+      | in-Accepted w ↦ outcome-made (w.now-is ∙ w.put_back-now.ensures ∙ put_back_same _ _ w.apply_command-outcome.ensures) w.answer-is ∙ w.apply_command-outcome.ensures ∙ by _ w.in-Accepted.is
+      | in-NoShape w ↦ outcome-made w.now-is w.answer-is ∙ by _ w.in-NoShape.is
+      | in-OutsideLimits w ↦ outcome-made w.now-is w.answer-is ∙ by _ w.in-OutsideLimits.is
+    ]
     in
     let started-is : c.if-number_of-eq0.started ≡ counts_as_started c.match-reading.now =
     let k = c.loop-at in
     let same = outcome-is in
-    let keeper_is : counts_as_started c.match-reading.now ≡ counts_as_started (answered (before c.before.before) (line c.before.before)).keeper = ap (λ (o : Outcome). counts_as_started o.keeper) same in
-    let number_is : c.number_of.result ≡ number_of (answered (before c.before.before) (line c.before.before)).answer = c.number_of.ensures ∙ ap (λ (o : Outcome). number_of o.answer) same in
-    ⊎_elim
-    (λ w. w.1 ∙ sym (keeper_is ∙ answered_starts (before c.before.before) (line c.before.before) k.invariant.5 (sym number_is ∙ w.0.taken)))
-    (λ w. w.1 ∙ k.invariant.4 ∙ sym (keeper_is ∙ ap counts_as_started (refused_same (before c.before.before) (line c.before.before) (λ e. w.0.left (number_is ∙ e)))))
-    c.if-number_of-eq0.branch-raw
+    let keeper_is : counts_as_started c.match-reading.now ≡ counts_as_started (answered c.loop-at.now (take (c.loop-at.at - c.loop-at.next) (drop c.loop-at.next c.args.bytes.now))).keeper = ap (λ (o : Outcome). counts_as_started o.keeper) same in
+    let number_is : c.number_of.result ≡ number_of (answered c.loop-at.now (take (c.loop-at.at - c.loop-at.next) (drop c.loop-at.next c.args.bytes.now))).answer = c.number_of.ensures ∙ ap (λ (o : Outcome). number_of o.answer) same in
+    elim c.if-number_of-eq0.branch [
+      | then-number_of-eq0 w ↦ w.started-is ∙ sym (keeper_is ∙ answered_starts c.loop-at.now (take (c.loop-at.at - c.loop-at.next) (drop c.loop-at.next c.args.bytes.now)) k.invariant.5 (sym number_is ∙ w.if-number_of-eq0.true))
+      | else-number_of-eq0 w ↦ w.started-is ∙ k.invariant.4 ∙ sym (keeper_is ∙ ap counts_as_started (refused_same c.loop-at.now (take (c.loop-at.at - c.loop-at.next) (drop c.loop-at.next c.args.bytes.now)) (λ e. w.if-number_of-eq0.false (number_is ∙ e))))
+    ]
     in
     let w = c.write_answer-length in
     let k = c.loop-at in
     let a = c.args in
     let same = outcome-is in
-    let within = filled_within k.out k.filled k.invariant.1 w.auto.0 w.ensures in
-    let step : Step (before c.before.before.before.before.before.before.before) (line c.before.before.before.before.before.before.before) (take (length k.out - k.filled) (drop k.filled k.out)) c.match-reading.now w.new.0 w.result =
+    let within = filled_within k.out k.filled k.invariant.1 w.auto.out w.ensures in
+    let step : Step c.loop-at.now (take (c.loop-at.at - c.loop-at.next) (drop c.loop-at.next c.args.bytes.now)) (take (length k.out - k.filled) (drop k.filled k.out)) c.match-reading.now w.new.out w.result =
     record {
       keeper_is = ap (λ (o : Outcome). o.keeper) same;
-      wrote = subst (λ (o : Outcome). Wrote o.answer o.keeper (take (length k.out - k.filled) (drop k.filled k.out)) w.new.0 w.result) same w.ensures;
+      wrote = subst (λ (o : Outcome). Wrote o.answer o.keeper (take (length k.out - k.filled) (drop k.filled k.out)) w.new.out w.result) same w.ensures;
     } in (
       search rules,
       omega arith,
       c.line_end-at-in-loop-at.ensures,
       line_answered a.bytes.now k.next k.at k.invariant.3 k.invariant.2 c.loop-at-test.true step,
       started-is,
-      subst (λ (o : Outcome). Sized o.keeper) (sym same) (answered_sized (before c.before.before.before.before.before.before.before) (line c.before.before.before.before.before.before.before) k.invariant.5),
+      subst (λ (o : Outcome). Sized o.keeper) (sym same) (answered_sized c.loop-at.now (take (c.loop-at.at - c.loop-at.next) (drop c.loop-at.next c.args.bytes.now)) k.invariant.5),
     )
 
 pub shape_of-out : goal.shape_of-out
@@ -113,9 +107,9 @@ pub returns : goal.returns
 returns c =
     let k = c.loop-at in
     let a = c.args in
-    ⊎_elim
-    (λ w. rw (le-ltb k.at (length a.bytes.now) w.left) (stopped_done a.bytes.now k.next k.at k.invariant.3 k.invariant.2 w.left))
-    (λ w.
-    let short = w.1.taken in
-    rw (lt-ltb k.at (length a.bytes.now) w.0.taken) (stopped_full a.bytes.now k.next k.at k.invariant.3 k.invariant.2 w.0.taken (omega (arith, k.invariant.0, k.invariant.1, short))))
-    c.loop-at-test.branch-raw
+    elim c.loop-at-test.branch [
+      | else-loop-at-test w ↦ rw (le-ltb k.at (length a.bytes.now) w.loop-at-test.false) (stopped_done a.bytes.now k.next k.at k.invariant.3 k.invariant.2 w.loop-at-test.false)
+      | then-loop-at-test+then-out-filled-lt-LEAST_OUTPUT w ↦
+          let short = w.if-out-filled-lt-LEAST_OUTPUT.true in
+          rw (lt-ltb k.at (length a.bytes.now) w.loop-at-test.true) (stopped_full a.bytes.now k.next k.at k.invariant.3 k.invariant.2 w.loop-at-test.true (omega (arith, k.invariant.0, k.invariant.1, short)))
+    ]
