@@ -1,0 +1,55 @@
+-- A short output comes first, then what the line is read as; only a command looks at the
+-- image.
+use mathlib.Core.Path.{◌≡◌, sym, ◌∙◌}
+use native.Mathlib.Omega.{arith}
+use borrow.Author.Rules.{rules}
+use borrow.Author.Tests.{not-true, not-false, eqb-true, eqb-false}
+use lib.ListN.{length}
+use Rattle.image.specs.Layout.{image_length, keeper_in}
+use Rattle.boardtime_lib.proofs.ImageLaws.{line_refused, line_short, line_command, line_no_shape, line_outside}
+use Rattle.boardtime_lib.proofs.boardtime_line.Goals as goal
+
+pub returns-then-not-is_image : goal.returns-then-not-is_image
+returns-then-not-is_image c = line_refused _ (eqb-false _ _ (sym c.is_image.ensures ∙ c.if-not-is_image.true)) _ _
+
+pub returns-then-out-lt-LEAST_OUTPUT : goal.returns-then-out-lt-LEAST_OUTPUT
+returns-then-out-lt-LEAST_OUTPUT c = line_short _ (eqb-true _ _ (sym c.is_image.ensures ∙ c.if-not-is_image.false)) _ c.if-out-lt-LEAST_OUTPUT.true
+
+pub answer_command-requires : goal.answer_command-requires
+answer_command-requires c =
+    let whole : length c.args.image.now ≡ image_length =
+    eqb-true _ _ (sym c.is_image.ensures ∙ c.if-not-is_image.false)
+    in
+    record { image_len = whole; least_output_in_bounds = c.if-out-lt-LEAST_OUTPUT.false }
+
+pub returned-requires : goal.returned-requires
+returned-requires c = (c.write_refusal.ensures (keeper_in c.args.image.now)).short
+
+pub returned-requires-in-OutsideLimits : goal.returned-requires-in-OutsideLimits
+returned-requires-in-OutsideLimits c = (c.write_refusal-in-OutsideLimits.ensures (keeper_in c.args.image.now)).short
+
+pub returns-in-Accepted : goal.returns-in-Accepted
+returns-in-Accepted c =
+    let whole : length c.args.image.now ≡ image_length =
+    eqb-true _ _ (sym c.is_image.ensures ∙ c.if-not-is_image.false)
+    in
+    let a = c.answer_command in
+    line_command _ (whole) c.if-out-lt-LEAST_OUTPUT.false (sym c.read_command-reading.ensures ∙ c.in-Accepted.is) a.ensures
+
+pub returns-in-NoShape : goal.returns-in-NoShape
+returns-in-NoShape c =
+    let whole : length c.args.image.now ≡ image_length =
+    eqb-true _ _ (sym c.is_image.ensures ∙ c.if-not-is_image.false)
+    in
+    let w = c.write_refusal in
+    rw c.returned.ensures
+    (line_no_shape _ (whole) c.if-out-lt-LEAST_OUTPUT.false (sym c.read_command-reading.ensures ∙ c.in-NoShape.is) w.ensures)
+
+pub returns-in-OutsideLimits : goal.returns-in-OutsideLimits
+returns-in-OutsideLimits c =
+    let whole : length c.args.image.now ≡ image_length =
+    eqb-true _ _ (sym c.is_image.ensures ∙ c.if-not-is_image.false)
+    in
+    let w = c.write_refusal-in-OutsideLimits in
+    rw c.returned-in-OutsideLimits.ensures
+    (line_outside _ (whole) c.if-out-lt-LEAST_OUTPUT.false (sym c.read_command-reading.ensures ∙ c.in-OutsideLimits.is) w.ensures)
