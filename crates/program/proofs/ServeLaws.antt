@@ -64,53 +64,53 @@ module _
     {s : Stream} {g : Got} {buffer buffer₁ : List ℕ} {unread unread₁ unread₂ held held₁ : Option (List ℕ)}
     (p : SoFar s buffer unread unread₁ held held₁) (read : Read s buffer g buffer₁) (new : Came unread₁ unread₂ s g buffer₁)
   where
-  -- a read that failed: no whole line waits, and nothing came
-  pub failed : g.failed ≡ true → Served ReadingFailed unread unread₂ held held₁
-  failed bad =
-      let f = p.flow in
-      let none : s.full ≡ false = by_test s.full (λ t. absurd (clash {t = g.failed} bad (read.waits t).2)) (λ t. t) in
-      record {
-        at_end = λ e. absurd (let z = e in search rules);
-        before_end =
-            λ _. (
-              record { input = f.input; written = f.written; came = consumes_kept unread unread₁ unread₂ f.input f.came (new.none (read.failure bad).0); went = f.went },
-              s.keeper,
-              program_so_far p.program none,
-            );
-      }
-
-  module _ {r : Stream} {buffer₂ out out' : List ℕ} {held₂ : Option (List ℕ)} (t : Turned s g.count buffer₁ out r buffer₂ out') (went : Appends held₁ held₂ (take r.filled out')) where
-    -- a turn, and what it wrote
-    pub goes_on : g.last ≡ false → SoFar r buffer₂ unread unread₂ held held₂
-    goes_on more =
+    -- a read that failed: no whole line waits, and nothing came
+    pub failed : g.failed ≡ true → Served ReadingFailed unread unread₂ held held₁
+    failed bad =
         let f = p.flow in
+        let none : s.full ≡ false = by_test s.full (λ t. absurd (clash {t = g.failed} bad (read.waits t).2)) (λ t. t) in
         record {
-          flow =
-              record {
-                input = f.input ++ came s g buffer₁;
-                written = f.written ++ take r.filled out';
-                came = consumes_more unread unread₁ unread₂ f.input (came s g buffer₁) f.came (new.bytes more);
-                went = appends_more held held₁ held₂ f.written (take r.filled out') f.went went;
-              };
-          program = turned p.program read more t;
-        }
-
-    -- the last turn
-    pub ends : g.last ≡ true → g.failed ≡ false → Served InputEnded unread unread₂ held held₂
-    ends last whole =
-        let f = p.flow in
-        record {
-          at_end =
+          at_end = λ e. absurd (let z = e in search rules);
+          before_end =
               λ _. (
-                record {
-                  input = f.input;
-                  written = f.written ++ take r.filled out';
-                  came = consumes_kept unread unread₁ unread₂ f.input f.came (new.none last);
-                  went = appends_more held held₁ held₂ f.written (take r.filled out') f.went went;
-                },
-                r.keeper,
-                new.ended last whole,
-                program_answers p.program read last whole t,
+                record { input = f.input; written = f.written; came = consumes_kept unread unread₁ unread₂ f.input f.came (new.none (read.failure bad).0); went = f.went },
+                s.keeper,
+                program_so_far p.program none,
               );
-          before_end = λ e. absurd (let z = e in search rules);
         }
+
+    module _ {r : Stream} {buffer₂ out out' : List ℕ} {held₂ : Option (List ℕ)} (t : Turned s g.count buffer₁ out r buffer₂ out') (went : Appends held₁ held₂ (take r.filled out')) where
+      -- a turn, and what it wrote
+      pub goes_on : g.last ≡ false → SoFar r buffer₂ unread unread₂ held held₂
+      goes_on more =
+          let f = p.flow in
+          record {
+            flow =
+                record {
+                  input = f.input ++ came s g buffer₁;
+                  written = f.written ++ take r.filled out';
+                  came = consumes_more unread unread₁ unread₂ f.input (came s g buffer₁) f.came (new.bytes more);
+                  went = appends_more held held₁ held₂ f.written (take r.filled out') f.went went;
+                };
+            program = turned p.program read more t;
+          }
+
+      -- the last turn
+      pub ends : g.last ≡ true → g.failed ≡ false → Served InputEnded unread unread₂ held held₂
+      ends last whole =
+          let f = p.flow in
+          record {
+            at_end =
+                λ _. (
+                  record {
+                    input = f.input;
+                    written = f.written ++ take r.filled out';
+                    came = consumes_kept unread unread₁ unread₂ f.input f.came (new.none last);
+                    went = appends_more held held₁ held₂ f.written (take r.filled out') f.went went;
+                  },
+                  r.keeper,
+                  new.ended last whole,
+                  program_answers p.program read last whole t,
+                );
+            before_end = λ e. absurd (let z = e in search rules);
+          }

@@ -4,7 +4,7 @@ use Rattle.program.proofs.ServeLaws.{begins, failed, goes_on, ends, wrote_all}
 use Rattle.program.proofs.run.Goals as goal
 
 pub loop-init : goal.loop-init
-loop-init g c = record { in_order = record { order = omega arith; within = omega arith; front = λ _. (refl, omega arith) }; so_far = begins _ _ _ }
+loop-init g c = record { in_order = record { order = omega arith; within = omega arith; front = λ _. (refl, omega arith) }; so_far = rw c.fresh.ensures (begins _ _ _) }
 
 pub returns-then-got : goal.returns-then-got
 returns-then-got g c = failed c.loop.invariant.so_far c.read_more-got.ensures.read c.read_more-got.ensures.came c.if-got.true
