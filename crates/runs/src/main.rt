@@ -59,7 +59,10 @@ fn write_runs<W: Write, E: Write>(output: &mut W, errors: &mut E, bytes: &[u8], 
     while at < bytes.len() {
         let end = next_mark(bytes, at);
         if !write_run(output, &bytes[at..end], out) {
-            tell(errors, b"runs: a line has no LF, or no room for its answer\n");
+            tell(
+                errors,
+                b"runs: a line has no LF, or no room for its answer\n",
+            );
             return;
         }
         at = end;
@@ -75,5 +78,10 @@ fn main(rt: HostRuntime) {
         tell(&mut rt.stderr(), b"runs: the input is too long\n");
         return;
     }
-    write_runs(&mut rt.stdout(), &mut rt.stderr(), &buffer[..count], &mut out);
+    write_runs(
+        &mut rt.stdout(),
+        &mut rt.stderr(),
+        &buffer[..count],
+        &mut out,
+    );
 }
