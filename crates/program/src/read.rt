@@ -1,5 +1,5 @@
 // What comes behind the bytes that are held: a read, and the end of the input.
-ghost use Rattle.std.specs.Prelude.{◌≡◌, ◌++◌, ◌+◌, ◌≤◌, ◌<◌, length, take};
+ghost use Rattle.std.specs.Prelude.{◌≡◌, false, ◌++◌, ◌+◌, ◌≤◌, ◌<◌, length, take};
 ghost use Rattle.reader.specs.Reading.{longest_line};
 ghost use Rattle.program.specs.Turning.{InOrder};
 ghost use Rattle.program.specs.Reading.{LineEnded, Brought, Read, Came};
@@ -57,6 +57,7 @@ pub(crate) fn read_more<R: io::Read>(s: Stream, buffer: &mut [u8], input: &mut R
     requires { InOrder s buffer.old × (longest_line + 1 < length buffer.old) }
     ensures read { Read s buffer.old result buffer.new }
     ensures came { Came (R.remaining input.old) (R.remaining input.new) s result buffer.new }
+    ensures some { s.full ≡ false → result.last ≡ false → 0 < result.count }
 {
     if s.full {
         return Got {

@@ -7,5 +7,6 @@ use Rattle.program.proofs.run.Given as goal
 abbrev pub invariant-loop : goal.invariant-loop
 invariant-loop g l = record {
   in_order : InOrder l.s l.buffer;
-  so_far : SoFar l.s l.buffer (g.R.Read.remaining l.initial.input) (g.R.Read.remaining l.input) (g.W.Write.contents l.initial.output) (g.W.Write.contents l.output);
+  so_far : SoFar l.counter l.s l.buffer
+      (g.R.Read.remaining l.initial.input) (g.R.Read.remaining l.input) (g.W.Write.contents l.initial.output) (g.W.Write.contents l.output);
 }
