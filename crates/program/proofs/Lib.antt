@@ -1,4 +1,4 @@
--- Laws of a turn, of a read and of the program.
+-- Laws of a turn, of the program and of the bytes that it takes and gives.
 pub mod StreamLaws
-pub mod ReadLaws
 pub mod ProgramLaws
+pub mod ServeLaws

@@ -2,3 +2,4 @@
 pub mod Turning
 pub mod Reading
 pub mod Program
+pub mod Served

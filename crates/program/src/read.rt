@@ -1,11 +1,12 @@
 // What comes behind the bytes that are held: a read, and the end of the input.
-ghost use Rattle.std.specs.Prelude.{◌≡◌, ◌++◌, ◌+◌, ◌≤◌, ◌<◌, length, take};
+ghost use Rattle.std.specs.Prelude.{◌≡◌, false, ◌++◌, ◌+◌, ◌≤◌, ◌<◌, length, take};
 ghost use Rattle.reader.specs.Reading.{longest_line};
 ghost use Rattle.program.specs.Turning.{InOrder};
-ghost use Rattle.program.specs.Reading.{LineEnded, Brought, Read};
+ghost use Rattle.program.specs.Reading.{LineEnded, Brought, Read, Came};
 
 use crate::turn::Stream;
 use lines::LF;
+use std::io;
 
 // How many bytes came, whether they are the last, and whether a read failed.
 #[derive(Clone, Copy)]
@@ -28,35 +29,35 @@ fn end_line(buffer: &mut [u8], held: usize) -> usize
 }
 
 // What a read brought that returned `moved`: bytes, the end of the input, or a failure.
-fn brought(moved: isize, buffer: &mut [u8], held: usize) -> Got
+fn brought(moved: io::Result<usize>, buffer: &mut [u8], held: usize) -> Got
     requires { held < length buffer.old }
     ensures { Brought moved buffer.old held result buffer.new }
 {
-    if moved < 0 {
-        return Got {
+    match moved {
+        Err(_) => Got {
             count: 0,
             last: true,
             failed: true,
-        };
-    }
-    if moved == 0 {
-        return Got {
+        },
+        Ok(0) => Got {
             count: end_line(buffer, held),
             last: true,
             failed: false,
-        };
-    }
-    Got {
-        count: io::count(moved, &buffer[held..]),
-        last: false,
-        failed: false,
+        },
+        Ok(count) => Got {
+            count: count.min(buffer.len() - held),
+            last: false,
+            failed: false,
+        },
     }
 }
 
-// Reads once behind what is held, unless a whole line is left that had no room.
-pub(crate) fn read_more(s: Stream, buffer: &mut [u8], input: i32) -> Got
+// Reads once behind what is held, unless a whole line is left that had no room. A read that a signal interrupts counts as one that failed.
+pub(crate) fn read_more<R: io::Read>(s: Stream, buffer: &mut [u8], input: &mut R) -> Got
     requires { InOrder s buffer.old × (longest_line + 1 < length buffer.old) }
-    ensures { Read s buffer.old result buffer.new }
+    ensures read { Read s buffer.old result buffer.new }
+    ensures came { Came (R.remaining input.old) (R.remaining input.new) s result buffer.new }
+    ensures some { s.full ≡ false → result.last ≡ false → 0 < result.count }
 {
     if s.full {
         return Got {
@@ -66,6 +67,6 @@ pub(crate) fn read_more(s: Stream, buffer: &mut [u8], input: i32) -> Got
         };
     }
     let held = s.end;
-    let moved = libc::read(input, &mut buffer[held..]);
+    let moved = input.read(&mut buffer[held..]);
     brought(moved, buffer, held)
 }

@@ -1,8 +1,6 @@
 // boardtime on a stored run: more than three reads of 64 KiB, with a command that moves the keeper across the end of each.
 #![tactic(auto)]
 
-use libc::{STDIN_FILENO, STDOUT_FILENO};
-
-fn main() {
-    program::serve(STDIN_FILENO, STDOUT_FILENO);
+fn main(rt: HostRuntime) {
+    program::serve(&mut rt.stdin(), &mut rt.stdout(), &mut rt.stderr());
 }

@@ -1,8 +1,6 @@
 // boardtime on a stored run: a last line without LF, of 200,000 bytes.
 #![tactic(auto)]
 
-use libc::{STDIN_FILENO, STDOUT_FILENO};
-
-fn main() {
-    program::serve(STDIN_FILENO, STDOUT_FILENO);
+fn main(rt: HostRuntime) {
+    program::serve(&mut rt.stdin(), &mut rt.stdout(), &mut rt.stderr());
 }

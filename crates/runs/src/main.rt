@@ -4,18 +4,37 @@
 
 use crate::marks::{mark_size, next_mark};
 use keeper::Keeper;
-use libc::{STDERR_FILENO, STDIN_FILENO, STDOUT_FILENO};
 use serve::answer::{Lines, answer_lines};
+use std::io::{Read, Write};
 
 mod marks;
 
-ghost use Rattle.std.specs.Prelude.{drop};
+ghost use Rattle.std.specs.Prelude.{◌≤◌, length, drop};
 ghost use Rattle.keeper.specs.State.{fresh};
 ghost use Rattle.serve.specs.Serving.{LinesAnswered};
 ghost use Rattle.runs.specs.Marks.{mark_size};
 
-fn tell(message: &[u8]) {
-    io::write_all(STDERR_FILENO, message);
+// The input is read into so many bytes, and has to be shorter; as many hold the answers to a run.
+const BUFFER: usize = 65536;
+
+// Where a message can't be written either, there is no one left to tell.
+fn tell<E: Write>(errors: &mut E, message: &[u8]) {
+    let _ = errors.write_all(message);
+}
+
+// Reads until the buffer is full, the input ends or a read fails, and returns how many bytes it put at the front of the buffer.
+fn read_full<R: Read>(input: &mut R, buffer: &mut [u8]) -> usize
+    ensures { result ≤ length buffer.new }
+{
+    let mut count = 0;
+    while count < buffer.len() {
+        let moved = input.read(&mut buffer[count..]).unwrap_or(0);
+        if moved == 0 {
+            break;
+        }
+        count += moved;
+    }
+    count
 }
 
 // Answers the lines of a run, which stand behind its mark, as a program does that has just begun.
@@ -26,21 +45,24 @@ fn answer_run(run: &[u8], out: &mut [u8]) -> Lines
 }
 
 // Writes a run's mark and its answers, and tells whether every line was answered. A write that fails is seen where the output is compared.
-fn write_run(run: &[u8], out: &mut [u8]) -> bool {
+fn write_run<W: Write>(output: &mut W, run: &[u8], out: &mut [u8]) -> bool {
     let mark = mark_size(run);
     let l = answer_run(run, out);
     let filled = l.filled;
-    io::write_all(STDOUT_FILENO, &run[..mark]);
-    io::write_all(STDOUT_FILENO, &out[..filled]);
+    let _ = output.write_all(&run[..mark]);
+    let _ = output.write_all(&out[..filled]);
     l.from == run.len()
 }
 
-fn write_runs(bytes: &[u8], out: &mut [u8]) {
+fn write_runs<W: Write, E: Write>(output: &mut W, errors: &mut E, bytes: &[u8], out: &mut [u8]) {
     let mut at = 0;
     while at < bytes.len() {
         let end = next_mark(bytes, at);
-        if !write_run(&bytes[at..end], out) {
-            tell(b"runs: a line has no LF, or no room for its answer\n");
+        if !write_run(output, &bytes[at..end], out) {
+            tell(
+                errors,
+                b"runs: a line has no LF, or no room for its answer\n",
+            );
             return;
         }
         at = end;
@@ -48,13 +70,18 @@ fn write_runs(bytes: &[u8], out: &mut [u8]) {
 }
 
 // A read that fails counts as the end of the input, and is seen alike.
-fn main() {
-    let mut buffer = io::large_buffer();
-    let mut out = io::large_buffer();
-    let count = io::read_full(STDIN_FILENO, &mut buffer);
+fn main(rt: HostRuntime) {
+    let mut buffer = [0u8; BUFFER];
+    let mut out = [0u8; BUFFER];
+    let count = read_full(&mut rt.stdin(), &mut buffer);
     if count == buffer.len() {
-        tell(b"runs: the input is too long\n");
+        tell(&mut rt.stderr(), b"runs: the input is too long\n");
         return;
     }
-    write_runs(&buffer[..count], &mut out);
+    write_runs(
+        &mut rt.stdout(),
+        &mut rt.stderr(),
+        &buffer[..count],
+        &mut out,
+    );
 }

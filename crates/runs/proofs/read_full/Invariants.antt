@@ -1,0 +1,9 @@
+-- `runs::read_full` stays within its buffer, and ends: each read brings a byte.
+use Rattle.std.proofs.Common.{length, ◌-◌, ◌≤◌}
+use Rattle.runs.proofs.read_full.Given as goal
+
+abbrev pub invariant-loop-count : goal.invariant-loop-count
+invariant-loop-count g l = l.count ≤ length l.buffer
+
+abbrev pub decreases-loop-count : goal.decreases-loop-count
+decreases-loop-count g l = length l.buffer - l.count
