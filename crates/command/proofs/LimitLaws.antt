@@ -1,6 +1,6 @@
 -- Laws of the limits, for the proofs of the code: what the tests on the way say of `integer_of`, `bounds_of` and `limited`.
 use mathlib.Core.Path.{◌≡◌, refl}
-use mathlib.Core.Bool.{Bool, true, false, ◌&&◌, and-false}
+use mathlib.Core.Bool.{Bool, true, false, ◌&&◌}
 use Prim.Native.Nat.{ℕ, ◌<◌, ◌≤◌}
 use native.Mathlib.Omega.{arith}
 use borrow.Author.Tests.{le-leb, lt-leb, leb-true, leb-false}
@@ -12,7 +12,6 @@ use mir.Facts.{to_z-of_z}
 use Rattle.bits.specs.Choice.{choose}
 use Rattle.numeral.specs.Reading.{integer}
 use Rattle.moment.specs.Moment.{in_range}
-use Rattle.moment.specs.declared.Interval.{Interval}
 use Rattle.moment.proofs.Integers.{ints, below}
 use Rattle.moment.proofs.IntervalLaws.{range_before, range_after}
 use Rattle.command.specs.Forms.{Form}
@@ -21,8 +20,6 @@ use Rattle.command.specs.Edges.{edge_value, integer_of}
 use Rattle.command.specs.declared.Reading.TheVariants.{Accepted, OutsideLimits}
 use Rattle.command.specs.declared.accept.Edge.{Edge}
 use Rattle.command.specs.declared.accept.Integer.TheVariants as I
-use Rattle.moment.specs.declared.intervals.Bounds.TheVariants as B
-use Rattle.moment.specs.Intervals.{edges_within, bounds_of}
 
 -- ---- one number
 

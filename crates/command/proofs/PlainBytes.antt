@@ -10,7 +10,7 @@ use lib.IntN.{ℤ, pos, negsuc}
 use borrow.Author.Tests.{le-leb, leb-true, ne_eqb, not-true}
 use Rattle.bits.proofs.Tests.{both}
 use Rattle.text.specs.Words.{bytes}
-use Rattle.numeral.specs.Digits.{digits, signed_digits}
+use Rattle.numeral.specs.Digits.{signed_digits}
 use Rattle.numeral.specs.Groups.{underscore, carries_underscore}
 use Rattle.numeral.specs.Numerals.{AllDigits, none, more}
 use Rattle.numeral.proofs.Numerals.{digits_all}

@@ -1,9 +1,8 @@
 -- Laws of a window's span: what the tests on the way say of it.
-use mathlib.Core.Path.{◌≡◌, refl, sym, ap, ◌∙◌}
-use mathlib.Core.Bool.{Bool, true, false, ◌&&◌}
+use mathlib.Core.Path.{◌≡◌}
+use mathlib.Core.Bool.{true, false}
 use Prim.Native.Nat.{ℕ}
 use native.Mathlib.Omega.{arith}
-use lib.IntN.{ℤ}
 use lib.Signed.{lt_z}
 use Rattle.bits.proofs.Tests.{by_test}
 use Rattle.calendar.specs.Calendar.{exists}

@@ -10,7 +10,6 @@ use lib.Dec.{leb}
 use lib.IntN.{ℤ, pos, negsuc, nat_abs}
 use lib.Signed.{le_z, lt_z}
 use lib.ListN.{length, length-append}
-use Rattle.bits.specs.Choice.{choose}
 use Rattle.bits.proofs.Tests.{both}
 use Rattle.text.specs.Words.{bytes}
 use Rattle.numeral.specs.Digits.{signed_digits}

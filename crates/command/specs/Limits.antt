@@ -4,7 +4,6 @@ use Rattle.std.specs.Prelude.{Bool, true, ◌&&◌, ℕ, leb}
 use Rattle.bits.specs.Choice.{choose}
 use Rattle.moment.specs.Intervals.{edges_within}
 use Rattle.flights.specs.Flights.{flight_within}
-use Rattle.moment.specs.declared.Interval.{Interval}
 use Rattle.command.specs.Forms as F
 use Rattle.command.specs.Forms.{Form}
 use Rattle.command.specs.declared.Command.{Command}

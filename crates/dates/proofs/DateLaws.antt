@@ -4,12 +4,12 @@ use mathlib.Core.Bool.{Bool, true, false, ◌&&◌}
 use mathlib.Core.List.{List, [], ◌∷◌, ◌++◌, append_assoc}
 use Prim.Native.Nat.{ℕ, suc, ◌+◌, ◌-◌, ◌*◌, ◌/◌, ◌%◌, ◌≤◌, ◌<◌}
 use native.Mathlib.Omega.{arith}
-use borrow.Author.Tests.{le-leb, leb-true, leb-false, lt-leb}
+use borrow.Author.Tests.{le-leb, leb-true}
 use lib.Dec.{leb}
 use lib.ListN.{length, drop, get_or, length-drop, length-append}
 use lib.Seq.{drop-cons, drop-drop}
 use Rattle.bits.specs.Choice.{choose}
-use Rattle.bits.proofs.Tests.{both, by_test}
+use Rattle.bits.proofs.Tests.{both}
 use Rattle.text.specs.Words.{bytes, word_at, Stands}
 use Rattle.text.specs.declared.words.Word.{Word}
 use Rattle.text.specs.declared.words.Word.TheVariants.{After, Other}

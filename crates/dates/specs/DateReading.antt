@@ -1,7 +1,6 @@
 -- What the readers of dates answer, for any bytes and any place. `proofs/DateLaws.antt` proves that a date is answered exactly where a spelling
 -- of it stands: `date_read` and `read_date`.
 use Rattle.std.specs.Prelude.{◌&&◌, List, [], ◌∷◌, ℕ, ◌+◌, ◌-◌, ◌*◌, drop}
-use Prim.Native.String.{String}
 use Rattle.bits.specs.Choice.{choose}
 use Rattle.text.specs.Words.{bytes, word_at}
 use Rattle.text.specs.declared.words.Word.{Word}

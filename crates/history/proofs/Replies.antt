@@ -1,6 +1,6 @@
 -- An accepted reply keeps the invariant, by the finding of its verdict: as a conflict, taken, and kept.
-use mathlib.Core.Path.{◌≡◌, refl, sym, subst}
-use mathlib.Core.Bool.{true, false}
+use mathlib.Core.Path.{◌≡◌, refl}
+use mathlib.Core.Bool.{true}
 use Prim.Native.Nat.{ℕ, ◌+◌, ◌<◌}
 use native.Mathlib.Omega.{arith}
 use lib.IntN.{ℤ}
@@ -15,7 +15,6 @@ use Rattle.rules.proofs.VerdictLaws.{Sound}
 use Rattle.keeper.specs.State.{counts_as_started, state_of}
 use Rattle.keeper.specs.Apply.{changed, ended, replied}
 use Rattle.keeper.specs.declared.Keeper.{Keeper}
-use Rattle.keeper.proofs.StartedLaws.{started_read}
 use Rattle.history.specs.Log.{log_ended, log_conflicts, log_counted, log_replied}
 use Rattle.history.specs.Course.{advanced, replied_event}
 use Rattle.history.proofs.Invariant.{log_of, Follows, KeeperInvariant, Invariant}

@@ -1,7 +1,6 @@
 -- The list of the waiting peers is answered only by a keeper that counts as started.
 use mathlib.Core.Path.{◌≡◌, refl, ap}
 use mathlib.Core.Bool.{Bool, true, false}
-use Prim.Native.Nat.{ℕ}
 use borrow.Author.Tests.{not-false, eqb-true}
 use lib.Dec.{eqb}
 use Rattle.bits.specs.Choice.{choose}

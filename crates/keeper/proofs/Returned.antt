@@ -1,7 +1,5 @@
 -- The number that a command returns: it is that of its refusal, 0 if it is accepted; and a refused command leaves the keeper as it was.
 use mathlib.Core.Path.{◌≡◌, refl, ap, ◌∙◌}
-use mathlib.Core.Bool.{true}
-use Prim.Native.Nat.{ℕ}
 use borrow.Author.Tests.{eqb-true, ne_eqb}
 use lib.Dec.{eqb}
 use Rattle.bits.proofs.Tests.{by_test}

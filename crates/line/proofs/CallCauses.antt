@@ -1,7 +1,7 @@
 -- The law of the refusals for the whole call: the number returned is that of the first cause that holds, in the order 10, 1, 2 and the rest, and
 -- 0 if none does.
 use mathlib.Core.Path.{◌≡◌, refl, sym, ◌∙◌}
-use mathlib.Core.Bool.{Bool, true, false}
+use mathlib.Core.Bool.{true}
 use mathlib.Core.List.{List, ◌++◌}
 use Prim.Native.Nat.{ℕ, suc}
 use native.Mathlib.Omega.{arith}

@@ -1,6 +1,5 @@
 -- Laws of the bytes of an unfinished line that are moved to the front of a buffer.
-use mathlib.Core.Path.{◌≡◌, refl, sym, ap, ◌∙◌}
-use mathlib.Core.Bool.{Bool, true, false}
+use mathlib.Core.Path.{◌≡◌, sym, ap, ◌∙◌}
 use mathlib.Core.List.{List, [], ◌∷◌, ◌++◌}
 use Prim.Native.Nat.{ℕ, suc, ◌+◌, ◌-◌, ◌≤◌, ◌<◌, min}
 use native.Mathlib.Omega.{arith}
@@ -9,7 +8,7 @@ use borrow.Author.Tests.{leb-true, leb-false}
 use lib.Dec.{leb}
 use lib.ListN.{length, take, drop, set, get_or, length-take, length-drop, take-append-drop, drop_of_length-le}
 use lib.Seq.{take_all, take-nil, take-append-le, drop-append-le, drop-cons, take-suc, set_at, append_snoc, get_or-append-add, get_or-drop, length-take-le}
-use Rattle.lines.specs.Lines.{held_of, Held}
+use Rattle.lines.specs.Lines.{held_of}
 use Rattle.bits.proofs.Tests.{by_test}
 
 -- one byte more moved: it is read behind all that were written

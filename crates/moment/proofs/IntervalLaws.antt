@@ -2,7 +2,7 @@
 -- is outside; two intervals share a moment exactly if the test says so, and their common moments are those from the larger lower edge
 -- through the smaller upper one; the half of a sum is rounded toward minus infinity.
 use mathlib.Core.Path.{◌≡◌, refl}
-use mathlib.Core.Bool.{Bool, true, false, ◌&&◌}
+use mathlib.Core.Bool.{true, false}
 use mathlib.Core.Logic.{◌↔◌}
 use lib.IntN.{ℤ, pos, negsuc, ◌+ℤ◌}
 use lib.Signed.{le_z, ◌≤ℤ◌, ◌<ℤ◌}

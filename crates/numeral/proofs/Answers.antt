@@ -1,9 +1,9 @@
 -- Which answer a run of digits has: by its length, its first byte and the byte after it. For the proofs of the code.
-use Rattle.std.proofs.Common.{◌≡◌, ℕ, suc, ◌+◌, ◌-◌, ◌^◌, ◌<◌, ◌≤◌, Bool, true, false, not, ◌&&◌, leb, List, [], ◌∷◌, length, get_or, drop, sym, refl, ap, ◌∙◌, add-zero, lt_of_not-le, arith, get_or-drop, eq-eqb, ne_eqb, le-leb, leb-false, leb-true}
+use Rattle.std.proofs.Common.{◌≡◌, ℕ, suc, ◌+◌, ◌-◌, ◌^◌, ◌<◌, ◌≤◌, Bool, true, false, ◌&&◌, leb, List, [], ◌∷◌, length, get_or, drop, sym, refl, ◌∙◌, add-zero, lt_of_not-le, arith, get_or-drop, eq-eqb, ne_eqb, le-leb, leb-false, leb-true}
 use borrow.Author.Tests.{lt-leb}
 use Rattle.bits.proofs.Tests.{clash, by_test}
 use Rattle.numeral.specs.Progress.{TellsDigit, Progress, Ended, EndedInside, GoesOn}
-use Rattle.numeral.specs.Reading.{numeral_ends, run, value_from, well_formed, first_group, at_underscore, number_in, groups_from, number_from, number_at}
+use Rattle.numeral.specs.Reading.{run, value_from, well_formed, first_group, at_underscore, number_in, groups_from, number_from, number_at}
 use Rattle.numeral.specs.declared.read.Number.TheVariants as N
 use Rattle.numeral.proofs.Reading.{false_and, run_none, run_underscore, run_some, run_other, run_value, ends_no_underscore, run_head, digit_here}
 

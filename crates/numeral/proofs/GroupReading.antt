@@ -9,7 +9,6 @@ use Rattle.numeral.specs.Groups.{underscore, ungrouped}
 use Rattle.numeral.specs.Numerals.{AllDigits, none, more, Groups, end, group}
 use Rattle.numeral.specs.Progress.{TellsDigit, Counted, group_number}
 use Rattle.numeral.specs.Reading.{is_digit, is_group, at_underscore, numeral_ends, value_from, ended_at, groups_from}
-use Rattle.numeral.specs.declared.read.Number.{Number}
 use Rattle.numeral.specs.declared.read.Number.TheVariants as N
 use Rattle.numeral.proofs.GroupLaws.{ungrouped_group}
 use Rattle.numeral.proofs.Reading.{false_and, is_digit_lem, digit_bounds, ends_no_underscore}

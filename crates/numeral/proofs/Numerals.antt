@@ -8,7 +8,7 @@ use Rattle.bits.proofs.Tests.{both}
 use Rattle.text.specs.Words.{Stands}
 use Rattle.text.proofs.WordLaws.{rest_is}
 use Rattle.numeral.specs.Digits.{digits}
-use Rattle.numeral.specs.Groups.{underscore, grouped, ungrouped}
+use Rattle.numeral.specs.Groups.{grouped, ungrouped}
 use Rattle.numeral.specs.Numerals.{Numeral, AllDigits, none, more, Plain, Groups, end, group, InGroups, Described}
 use Rattle.numeral.specs.Reading.{is_digit, at_underscore, numeral_ends, run, value_from, well_formed, first_group, groups_from, number_in, number_from, number_at}
 use Rattle.numeral.specs.declared.read.Number.TheVariants as N

@@ -1,7 +1,7 @@
 -- What the reader answers, for a line of any bytes and any length: a total function on lists. `specs/Grammar.antt` states that it accepts
 -- exactly the grammar of `command`'s `specs/Forms.antt`.
 use Rattle.std.specs.Prelude.{List, [], ◌∷◌, ℕ, leb, length}
-use Rattle.std.proofs.Math.Option.{Option, none, some}
+use Rattle.std.proofs.Math.Option.{Option, none}
 use Rattle.text.specs.Words.{bytes, word_at}
 use Rattle.text.specs.declared.words.Word.{Word}
 use Rattle.text.specs.declared.words.Word.TheVariants.{After, Other}

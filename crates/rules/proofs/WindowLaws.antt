@@ -1,15 +1,13 @@
 -- The word that is told of a window says what is so of every moment within the edges, and no other word does: `window_says`.
 use mathlib.Core.Path.{◌≡◌, refl, sym, ◌∙◌, subst}
-use mathlib.Core.Bool.{Bool, true, false, ◌&&◌, ◌||◌}
 use mathlib.Core.Logic.{◌↔◌}
 use lib.IntN.{ℤ}
-use lib.Signed.{le_z, lt_z, ◌≤ℤ◌, ◌<ℤ◌}
-use Rattle.bits.specs.Choice.{choose}
+use lib.Signed.{lt_z, ◌≤ℤ◌, ◌<ℤ◌}
 use Rattle.bits.proofs.Tests.{by_test}
 use Rattle.moment.specs.Intervals.{Holds}
 use Rattle.moment.specs.declared.Interval.{Interval}
 use Rattle.moment.proofs.Integers.{ints, make_le_z_true, make_le_z_false, make_lt_z_true, make_lt_z_false}
-use Rattle.rules.specs.Windows.{Inside, AllInside, NoneInside, Says, window_state}
+use Rattle.rules.specs.Windows.{Says, window_state}
 use Rattle.rules.specs.declared.WindowState.{WindowState}
 use Rattle.rules.specs.declared.WindowState.TheVariants.{Open, Shut, Unsure}
 

@@ -4,7 +4,7 @@ use mathlib.Core.Bool.{false}
 use mathlib.Core.List.{List, [], ◌++◌}
 use Prim.Native.Nat.{ℕ}
 use Rattle.lines.specs.Lines.{breaks, lines_of}
-use Rattle.stream.specs.Stream.{through, answers_to, Step, all_got, all_written, Ran, LongAlike, AnswersTheInput}
+use Rattle.stream.specs.Stream.{through, answers_to, Step, all_got, Ran, LongAlike, AnswersTheInput}
 use Rattle.stream.proofs.Alike.{Alike}
 use Rattle.stream.proofs.Answering.{through_append, through_alike, answers_append, answers_alike}
 use Rattle.stream.proofs.Turning.{turns_answered}

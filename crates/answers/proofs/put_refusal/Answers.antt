@@ -2,7 +2,6 @@
 use mathlib.Core.Path.{◌∙◌}
 use Prim.Native.Nat.{◌+◌}
 use native.Mathlib.Omega.{arith}
-use borrow.Author.Rules.{rules}
 use lib.ListN.{length-set}
 use Rattle.numeral.proofs.Digits.{digits_one}
 use Rattle.writing.proofs.PutsLaws.{one_put, ◌then◌}

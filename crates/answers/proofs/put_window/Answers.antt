@@ -1,5 +1,4 @@
 -- In each arm the word is that of what is told.
-use borrow.Author.Rules.{rules}
 use Rattle.writing.proofs.PutsLaws.{one_put}
 use Rattle.answers.proofs.put_window.Goals as goal
 

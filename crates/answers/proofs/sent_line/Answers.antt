@@ -1,7 +1,6 @@
 -- The parts are put in the order of the definition, and are at most 6 + 3 + 1 + 10 + 1 bytes.
 use mathlib.Core.List.{append_assoc}
 use native.Mathlib.Omega.{arith}
-use borrow.Author.Rules.{rules}
 use lib.ListN.{length-append}
 use Rattle.numeral.proofs.Digits.{digits_most}
 use Rattle.writing.proofs.PutsLaws.{one_put, ◌then◌, puts_same}

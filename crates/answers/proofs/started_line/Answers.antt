@@ -1,6 +1,5 @@
 -- A word, a number and the end.
 use native.Mathlib.Omega.{arith}
-use borrow.Author.Rules.{rules}
 use Rattle.writing.proofs.PutsLaws.{one_put}
 use Rattle.answers.specs.Answers.{line_of}
 use Rattle.answers.proofs.LineLaws.{number_put}

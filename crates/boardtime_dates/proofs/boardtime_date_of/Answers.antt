@@ -1,6 +1,5 @@
 -- The numbers of the calendar's answer are widened, each to its place, which changes none.
 use mir.Facts.{to_z-of_z}
-use borrow.Author.Rules.{rules}
 use Rattle.boardtime_dates.proofs.CallLaws.{date_called}
 use Rattle.boardtime_dates.proofs.boardtime_date_of.Goals as goal
 

@@ -1,7 +1,6 @@
 use mathlib.Core.Path.{sym, ◌∙◌}
-use borrow.Author.Tests.{not-true, not-false, eqb-true, eqb-false}
+use borrow.Author.Tests.{eqb-true, eqb-false}
 use Rattle.boardtime_lib.proofs.ImageLaws.{fresh_refused, fresh_stored}
-use borrow.Author.Rules.{rules}
 use Rattle.boardtime_lib.proofs.boardtime_fresh.Goals as goal
 
 pub returns-then-not-is_image : goal.returns-then-not-is_image

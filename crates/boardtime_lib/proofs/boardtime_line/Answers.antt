@@ -1,9 +1,7 @@
 -- A short output comes first, then what the line is read as; only a command looks at the
 -- image.
 use mathlib.Core.Path.{◌≡◌, sym, ◌∙◌}
-use native.Mathlib.Omega.{arith}
-use borrow.Author.Rules.{rules}
-use borrow.Author.Tests.{not-true, not-false, eqb-true, eqb-false}
+use borrow.Author.Tests.{eqb-true, eqb-false}
 use lib.ListN.{length}
 use Rattle.image.specs.Layout.{image_length, keeper_in}
 use Rattle.boardtime_lib.proofs.ImageLaws.{line_refused, line_short, line_command, line_no_shape, line_outside}

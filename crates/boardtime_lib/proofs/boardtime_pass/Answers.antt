@@ -2,7 +2,7 @@
 -- image, the pass of it lent, and of the keeper that came back what a pass changes.
 use mathlib.Core.Path.{◌≡◌, refl, sym, ◌∙◌, subst}
 use native.Mathlib.Omega.{arith}
-use borrow.Author.Tests.{not-true, not-false, eqb-true, eqb-false}
+use borrow.Author.Tests.{eqb-true, eqb-false}
 use lib.ListN.{length}
 use Rattle.keeper.specs.declared.Keeper.{Keeper}
 use Rattle.command.proofs.LimitLaws.{ticks_bound}

@@ -1,6 +1,5 @@
 -- What the line is read as is written back, and handed back as one number.
 use mathlib.Core.Path.{sym}
-use borrow.Author.Rules.{rules}
 use Rattle.writer.proofs.CommandLaws.{reading_written, reading_bounded}
 use Rattle.boardtime_uplink.proofs.CommandLaws.{length_fits, returns_it}
 use Rattle.boardtime_uplink.proofs.boardtime_plain.Goals as goal

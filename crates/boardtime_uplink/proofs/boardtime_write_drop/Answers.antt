@@ -1,5 +1,4 @@
 -- Its form is written, and handed back as one number.
-use borrow.Author.Rules.{rules}
 use Rattle.form_lines.proofs.WrittenLaws.{form_bounded}
 use Rattle.boardtime_uplink.proofs.CommandLaws.{length_fits, returns_it}
 use Rattle.boardtime_uplink.proofs.boardtime_write_drop.Goals as goal

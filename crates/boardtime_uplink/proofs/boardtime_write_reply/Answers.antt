@@ -1,6 +1,5 @@
 -- Its form is written, and handed back as one number.
 use mir.Facts.{to_z-of_z}
-use borrow.Author.Rules.{rules}
 use Rattle.command.specs.Forms as F
 use Rattle.form_lines.specs.Written.{written_form}
 use Rattle.form_lines.proofs.WrittenLaws.{form_bounded}

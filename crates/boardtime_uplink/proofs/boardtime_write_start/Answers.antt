@@ -1,6 +1,5 @@
 -- The form by the number of its rule, and handed back as one number.
 use mir.Facts.{to_z-of_z}
-use borrow.Author.Rules.{rules}
 use Rattle.command.specs.Forms as F
 use Rattle.form_lines.specs.Written.{written_by_rule}
 use Rattle.form_lines.proofs.WrittenLaws.{by_rule_bounded}

@@ -1,6 +1,5 @@
 -- The dates are cut to their fields, their form is written, and handed back as one number.
 use mathlib.Core.Path.{◌∙◌}
-use borrow.Author.Rules.{rules}
 use Rattle.form_lines.proofs.WrittenLaws.{form_bounded}
 use Rattle.form_lines.proofs.WindowLaws.{narrow_written}
 use Rattle.boardtime_uplink.proofs.CommandLaws.{length_fits, returns_it}

@@ -1,8 +1,6 @@
 -- The tests are the definition's.
 use mathlib.Core.Path.{sym, ◌∙◌}
-use borrow.Author.Tests.{not-true, not-false}
 use Rattle.changes.specs.Changes.{has_peer}
-use borrow.Author.Rules.{rules}
 use Rattle.changes.proofs.has_peer.Goals as goal
 
 pub returns-then-not-is_image : goal.returns-then-not-is_image

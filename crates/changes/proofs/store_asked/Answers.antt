@@ -3,10 +3,8 @@
 use mathlib.Core.Path.{◌≡◌, sym, ◌∙◌}
 use mathlib.Core.Bool.{true}
 use native.Mathlib.Omega.{arith}
-use borrow.Author.Tests.{not-true, not-false}
 use Rattle.changes.specs.Changes.{has_peer, asked_image}
 use Rattle.changes.proofs.ChangeLaws.{peer_read}
-use borrow.Author.Rules.{rules}
 use Rattle.changes.proofs.store_asked.Goals as goal
 
 pub returns-then-not-has_peer : goal.returns-then-not-has_peer

@@ -2,11 +2,10 @@
 -- past the test the buffer has the length of an image
 use mathlib.Core.Path.{◌≡◌, sym, ◌∙◌}
 use native.Mathlib.Omega.{arith}
-use borrow.Author.Tests.{not-true, not-false, eq-eqb, eqb-true}
+use borrow.Author.Tests.{eq-eqb, eqb-true}
 use lib.ListN.{length}
 use Rattle.image.specs.Layout.{image_length}
 use Rattle.changes.specs.Changes.{passed_image}
-use borrow.Author.Rules.{rules}
 use Rattle.changes.proofs.store_passed.Goals as goal
 
 pub returns-then-not-is_image : goal.returns-then-not-is_image

@@ -1,6 +1,5 @@
 -- One store after the other.
 use Rattle.changes.specs.Changes.{peer_stored}
-use borrow.Author.Rules.{rules}
 use Rattle.changes.proofs.store_peer.Goals as goal
 
 pub returns : goal.returns

@@ -1,6 +1,5 @@
 -- The word is put before the edges.
 use native.Mathlib.Omega.{arith}
-use borrow.Author.Rules.{rules}
 use Rattle.writing.proofs.PutsLaws.{one_put}
 use Rattle.answers.specs.Answers.{line_of}
 use Rattle.edge_lines.proofs.EdgeLaws.{edges_put}

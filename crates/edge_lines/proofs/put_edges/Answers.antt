@@ -1,7 +1,6 @@
 -- The parts are put in the order of the definition, and are at most 20 + 1 + 43 + 1 bytes.
 use mathlib.Core.Path.{ap}
 use native.Mathlib.Omega.{arith}
-use borrow.Author.Rules.{rules}
 use lib.ListN.{length-append}
 use Rattle.text.proofs.OutputLaws.{put_same}
 use Rattle.numeral.specs.Digits.{signed_digits}

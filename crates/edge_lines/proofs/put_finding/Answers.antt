@@ -1,5 +1,4 @@
 -- In each arm the word is that of the finding.
-use borrow.Author.Rules.{rules}
 use Rattle.writing.proofs.PutsLaws.{one_put}
 use Rattle.edge_lines.proofs.put_finding.Goals as goal
 

@@ -1,5 +1,4 @@
 -- The word of the finding is put before the edges.
-use borrow.Author.Rules.{rules}
 use Rattle.answers.specs.Answers.{line_of}
 use Rattle.edge_lines.proofs.EdgeLaws.{edges_put, word_most}
 use Rattle.edge_lines.proofs.replied_line.Goals as goal

@@ -1,10 +1,8 @@
-use borrow.Author.Rules.{rules}
 use mathlib.Core.Path.{◌≡◌, refl}
-use Prim.Native.Nat.{◌-◌, ◌≤◌}
 use native.Mathlib.Numerals.{add-one}
 use native.Mathlib.Omega.{arith}
 use Rattle.bits.specs.Below.{all_below}
-use Rattle.flights.specs.Flights.{flight_kept, flights_kept}
+use Rattle.flights.specs.Flights.{flights_kept}
 use Rattle.flights.proofs.flights_kept.Goals as goal
 
 pub loop-p-init : goal.loop-p-init

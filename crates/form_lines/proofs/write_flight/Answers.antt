@@ -1,6 +1,5 @@
 -- The layout with two times, with the word and the limits of `flight`.
 use mathlib.Core.Path.{refl, ◌∙◌}
-use borrow.Author.Rules.{rules}
 use Rattle.command.specs.Forms as F
 use Rattle.form_lines.proofs.WrittenLaws.{timed_form}
 use Rattle.form_lines.proofs.write_flight.Goals as goal

@@ -1,7 +1,6 @@
 -- A word alone.
 use mathlib.Core.Path.{refl, ◌∙◌}
 use mathlib.Core.Bool.{true}
-use borrow.Author.Rules.{rules}
 use Rattle.command.specs.Forms as F
 use Rattle.form_lines.proofs.WrittenLaws.{bare_form}
 use Rattle.form_lines.proofs.write_read.Goals as goal

@@ -1,6 +1,5 @@
 -- The layout with edges, with the word, the space and the limits of `reply`.
 use mathlib.Core.Path.{refl, ◌∙◌}
-use borrow.Author.Rules.{rules}
 use Rattle.command.specs.Forms as F
 use Rattle.form_lines.proofs.WrittenLaws.{edged_form}
 use Rattle.form_lines.proofs.write_reply.Goals as goal

@@ -1,6 +1,5 @@
 -- The layout of one number, with the word and the limit of `request`.
 use mathlib.Core.Path.{refl, ◌∙◌}
-use borrow.Author.Rules.{rules}
 use Rattle.command.specs.Forms as F
 use Rattle.form_lines.proofs.WrittenLaws.{numbered_form}
 use Rattle.form_lines.proofs.write_request.Goals as goal

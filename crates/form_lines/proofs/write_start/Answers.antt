@@ -1,6 +1,5 @@
 -- The layout with edges, with the word and the limits of `start` and the text of its rule.
 use mathlib.Core.Path.{refl, ◌∙◌}
-use borrow.Author.Rules.{rules}
 use Rattle.rules.specs.declared.Rule.TheVariants.{Im, Mm}
 use Rattle.command.specs.Forms as F
 use Rattle.form_lines.proofs.WrittenLaws.{edged_form, rule_written}

@@ -1,6 +1,5 @@
 -- , by the number of the rule.
 use borrow.Author.Tests.{eq-eqb, ne_eqb}
-use borrow.Author.Rules.{rules}
 use Rattle.form_lines.specs.Written.{written_by_rule}
 use Rattle.form_lines.proofs.write_start_with_rule_number.Goals as goal
 

@@ -1,7 +1,6 @@
 -- Refused by the number, or the line at the front. What no cause refuses has room, and dates that exist.
 use mathlib.Core.Path.{sym, ◌∙◌}
 use native.Mathlib.Omega.{arith}
-use borrow.Author.Rules.{rules}
 use Rattle.dates.proofs.FitLaws.{exists_fits}
 use Rattle.writing.proofs.PutsLaws.{one_put}
 use Rattle.command.specs.Forms as F

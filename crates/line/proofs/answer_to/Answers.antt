@@ -1,5 +1,4 @@
 -- What the line is read as picks the case of `answered`.
-use borrow.Author.Rules.{rules}
 use mathlib.Core.Path.{sym, ◌∙◌}
 use Rattle.line.specs.Call.{answered}
 use Rattle.line.proofs.answer_to.Goals as goal

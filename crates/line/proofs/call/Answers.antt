@@ -1,6 +1,5 @@
 -- Under 256 bytes nothing is touched, and otherwise the answer, the keeper and the bytes are those of
 -- `answered`.
-use borrow.Author.Rules.{rules}
 use mathlib.Core.Path.{sym, ap, ◌∙◌}
 use Rattle.keeper.specs.declared.Outcome.{Outcome}
 use Rattle.line.proofs.ResponseLaws.{listed, called_untouched, called_wrote}

@@ -1,5 +1,4 @@
 -- The line and its LF are put at the front.
-use borrow.Author.Rules.{rules}
 use Rattle.line.proofs.WroteLaws.{at_front}
 use Rattle.line.proofs.write_answer.Goals as goal
 

@@ -1,5 +1,4 @@
 -- The line and its LF are put at the front.
-use borrow.Author.Rules.{rules}
 use Rattle.line.proofs.WroteLaws.{refused_front}
 use Rattle.line.proofs.write_refusal.Goals as goal
 

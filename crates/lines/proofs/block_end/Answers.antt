@@ -1,9 +1,8 @@
 use mathlib.Core.Path.{◌≡◌, refl, sym, ◌∙◌}
-use Prim.Native.Nat.{◌-◌, ◌≤◌}
 use native.Mathlib.Omega.{arith}
 use borrow.Author.Tests.{not-false, eqb-true}
-use lib.ListN.{length, take, drop}
-use Rattle.lines.specs.Lines.{breaks, SameEnd}
+use lib.ListN.{take, drop}
+use Rattle.lines.specs.Lines.{breaks}
 use Rattle.lines.proofs.LineLaws.{line_along}
 use Rattle.lines.proofs.block_end.Goals as goal
 

@@ -1,7 +1,6 @@
 -- Half a block without an LF is passed over.
 use mathlib.Core.Path.{◌≡◌, refl, sym, ◌∙◌}
 use native.Mathlib.Omega.{arith}
-use borrow.Author.Rules.{rules}
 use borrow.Author.Tests.{not-false, eqb-true}
 use lib.ListN.{take, drop}
 use Rattle.lines.specs.Lines.{breaks}

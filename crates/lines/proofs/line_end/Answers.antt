@@ -1,8 +1,5 @@
-use mathlib.Core.Path.{◌≡◌, refl, sym, ◌∙◌}
-use Prim.Native.Nat.{◌+◌, ◌-◌, ◌≤◌}
+use mathlib.Core.Path.{◌∙◌}
 use native.Mathlib.Omega.{arith}
-use lib.ListN.{length, drop}
-use Rattle.lines.specs.Lines.{SameEnd}
 use Rattle.lines.proofs.LineLaws.{line_here, line_next, line_none}
 use Rattle.lines.proofs.line_end.Goals as goal
 

@@ -1,10 +1,7 @@
 -- The loop's invariant is that of `block_end`, byte by byte.
-use mathlib.Core.Path.{◌≡◌, refl, sym, ◌∙◌}
-use Prim.Native.Nat.{◌+◌, ◌-◌, ◌≤◌}
-use native.Mathlib.Omega.{arith}
-use lib.ListN.{length, drop}
+use Prim.Native.Nat.{◌-◌}
+use lib.ListN.{length}
 use Rattle.lines.specs.Lines.{SameEnd}
-use Rattle.lines.proofs.LineLaws.{line_here, line_next, line_none}
 use Rattle.lines.proofs.line_end.Given as goal
 
 abbrev pub invariant-loop-i : goal.invariant-loop-i

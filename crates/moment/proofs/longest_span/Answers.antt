@@ -2,7 +2,6 @@
 use Prim.Native.Nat.{◌+◌}
 use native.Mathlib.Omega.{arith}
 use mir.Facts.{to_z-of_z}
-use borrow.Author.Rules.{rules}
 use Rattle.moment.proofs.Integers.{ints, widened, product_fits}
 use Rattle.moment.proofs.longest_span.Goals as goal
 

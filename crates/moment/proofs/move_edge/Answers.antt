@@ -2,8 +2,6 @@
 -- own side; and once the test has passed the sum is between the edge and that end, so it fits too. Assumes nothing.
 -- behind the test of the sign, what is left to the end of the range, and to its beginning
 use mathlib.Core.Path.{◌≡◌, sym, ◌∙◌, ap}
-use mathlib.Core.Logic.{⊎_elim}
-use borrow.Author.Rules.{rules}
 use lib.IntN.{◌+ℤ◌, ◌-ℤ◌}
 use mir.Syntax.{w64}
 use mir.Val.{SFits, to_z, of_z}

@@ -7,7 +7,6 @@ use lib.IntN.{pos, ◌-ℤ◌}
 use mir.Syntax.{w64}
 use mir.Val.{to_z}
 use mir.Facts.{to_z-of_z}
-use borrow.Author.Rules.{rules}
 use Rattle.moment.proofs.Integers.{ints, widened, pos_sub, product_fits}
 use Rattle.moment.proofs.shortest_span.Goals as goal
 

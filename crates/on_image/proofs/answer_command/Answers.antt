@@ -1,7 +1,6 @@
 -- The outcome is that of the command on the keeper in the image, and what is stored
 -- makes the image that of the keeper handed back.
 use mathlib.Core.Path.{◌≡◌, sym, ap, ◌∙◌, subst}
-use mathlib.Core.List.{List}
 use Prim.Native.Nat.{ℕ, ◌+◌, ◌*◌}
 use native.Mathlib.Omega.{arith}
 use lib.ListN.{length}

@@ -1,5 +1,4 @@
 -- In each arm what is stored is what the definition has for the answer.
-use borrow.Author.Rules.{rules}
 use Rattle.on_image.proofs.store_changes.Goals as goal
 
 pub returns-in-Started : goal.returns-in-Started

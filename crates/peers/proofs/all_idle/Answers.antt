@@ -1,10 +1,7 @@
-use borrow.Author.Rules.{rules}
 use mathlib.Core.Path.{◌≡◌, refl, ◌∙◌}
-use Prim.Native.Nat.{◌-◌, ◌≤◌}
 use native.Mathlib.Omega.{arith}
 use Rattle.bits.specs.Below.{all_below}
-use Rattle.peers.specs.Peers.{idle_kept}
-use Rattle.peers.specs.Parts.{idle_or_waits, others_idle}
+use Rattle.peers.specs.Parts.{others_idle}
 use Rattle.peers.proofs.PeerLaws.{idle_more}
 use Rattle.peers.proofs.all_idle.Goals as goal
 

@@ -1,12 +1,9 @@
 -- The bits joined are none where every peer passed holds 0 for both.
-use borrow.Author.Rules.{rules}
-use mathlib.Core.Path.{◌≡◌, refl, ◌∙◌}
+use mathlib.Core.Path.{◌≡◌}
 use Prim.Native.Nat.{◌-◌, ◌≤◌}
-use native.Mathlib.Omega.{arith}
 use Rattle.bits.specs.Below.{all_below}
 use Rattle.peers.specs.Peers.{idle_kept}
-use Rattle.peers.specs.Parts.{idle_or_waits, others_idle}
-use Rattle.peers.proofs.PeerLaws.{idle_more}
+use Rattle.peers.specs.Parts.{idle_or_waits}
 use Rattle.peers.proofs.all_idle.Given as goal
 
 abbrev pub invariant-loop-p : goal.invariant-loop-p

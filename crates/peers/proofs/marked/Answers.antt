@@ -1,5 +1,4 @@
 -- The number's bit is the last of what is left of the mask.
-use borrow.Author.Rules.{rules}
 use mathlib.Core.Path.{refl}
 use Rattle.bits.specs.Bits.{bit_of}
 use Rattle.peers.proofs.marked.Goals as goal

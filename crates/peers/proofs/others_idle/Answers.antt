@@ -1,9 +1,4 @@
-use borrow.Author.Rules.{rules}
-use borrow.Author.Tests.{not-true, not-false}
 use mathlib.Core.Path.{◌≡◌, refl, sym, ◌∙◌}
-use mathlib.Core.Bool.{true}
-use mathlib.Core.Logic.{⊎_elim}
-use Prim.Native.Nat.{◌≤◌, ◌-◌}
 use native.Mathlib.Omega.{arith}
 use Rattle.bits.specs.Below.{all_below}
 use Rattle.peers.specs.Parts.{idle_or_waits, others_idle}
@@ -36,7 +31,7 @@ loop-p-preserved c =
       omega arith,
       all_more at.p _ at.invariant.1
           (elim c.if-not-bit_of.branch [
-            then-not-bit_of+else-not-idle_kept w ↦ rw (sym waits ∙ w.if-not-bit_of.true, sym w.idle_kept.ensures ∙ w.if-not-idle_kept.false)
+            | then-not-bit_of+else-not-idle_kept w ↦ rw (sym waits ∙ w.if-not-bit_of.true, sym w.idle_kept.ensures ∙ w.if-not-idle_kept.false)
             | else-not-bit_of w ↦ rw (sym waits ∙ w.if-not-bit_of.false)
           ]),
     )

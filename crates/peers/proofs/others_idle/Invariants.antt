@@ -1,14 +1,9 @@
 -- Where none waits every peer, else every peer before the place, passed.
-use borrow.Author.Rules.{rules}
-use borrow.Author.Tests.{not-true, not-false}
-use mathlib.Core.Path.{◌≡◌, refl, sym, ◌∙◌}
+use mathlib.Core.Path.{◌≡◌}
 use mathlib.Core.Bool.{true}
-use mathlib.Core.Logic.{⊎_elim}
 use Prim.Native.Nat.{◌≤◌, ◌-◌}
-use native.Mathlib.Omega.{arith}
 use Rattle.bits.specs.Below.{all_below}
-use Rattle.peers.specs.Parts.{idle_or_waits, others_idle}
-use Rattle.bits.proofs.Below.{all_more, all_broken}
+use Rattle.peers.specs.Parts.{idle_or_waits}
 use Rattle.peers.proofs.others_idle.Given as goal
 
 abbrev pub invariant-loop-p : goal.invariant-loop-p

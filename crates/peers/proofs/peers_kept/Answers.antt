@@ -1,6 +1,4 @@
 -- The two tests are the definition's, in two parts.
-use borrow.Author.Rules.{rules}
-use borrow.Author.Tests.{not-true, not-false}
 use mathlib.Core.Path.{sym, ◌∙◌}
 use Rattle.peers.proofs.PeerLaws.{peers_in_parts}
 use Rattle.peers.proofs.peers_kept.Goals as goal

@@ -1,10 +1,8 @@
 use mathlib.Core.Path.{◌≡◌, refl}
-use Prim.Native.Nat.{◌-◌, ◌≤◌}
 use native.Mathlib.Numerals.{add-one}
 use native.Mathlib.Omega.{arith}
 use Rattle.bits.specs.Below.{count_below}
-use Rattle.peers.specs.Parts.{has_tag, tag_alone}
-use borrow.Author.Rules.{rules}
+use Rattle.peers.specs.Parts.{tag_alone}
 use Rattle.peers.proofs.tag_alone.Goals as goal
 
 pub loop-q-init : goal.loop-q-init

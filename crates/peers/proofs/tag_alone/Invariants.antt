@@ -1,11 +1,8 @@
 -- The places before the next one are counted.
-use mathlib.Core.Path.{◌≡◌, refl}
+use mathlib.Core.Path.{◌≡◌}
 use Prim.Native.Nat.{◌-◌, ◌≤◌}
-use native.Mathlib.Numerals.{add-one}
-use native.Mathlib.Omega.{arith}
 use Rattle.bits.specs.Below.{count_below}
-use Rattle.peers.specs.Parts.{has_tag, tag_alone}
-use borrow.Author.Rules.{rules}
+use Rattle.peers.specs.Parts.{has_tag}
 use Rattle.peers.proofs.tag_alone.Given as goal
 
 abbrev pub invariant-loop-q : goal.invariant-loop-q

@@ -1,12 +1,5 @@
 -- The waiting peers that are not left are in order, and the remainders of their tags are marked.
-use borrow.Author.Rules.{rules}
-use borrow.Author.Tests.{not-true, not-false}
-use mathlib.Core.Path.{◌≡◌, sym, ◌∙◌}
-use Prim.Native.Nat.{◌-◌, ◌<◌}
-use native.Mathlib.Omega.{arith}
-use lib.Bits.{and_le_r}
-use Rattle.peers.proofs.Masks.{next, next_within, next_among}
-use Rattle.peers.proofs.Waiters.{Seen, seen_none, seen_more, seen_apart, seen_shared, waiter_broken}
+use Rattle.peers.proofs.Waiters.{Seen}
 use Rattle.peers.proofs.waiters_kept.Given as goal
 
 abbrev pub invariant-loop-rest : goal.invariant-loop-rest

@@ -1,6 +1,5 @@
 -- Each word is followed by the parts of its kind.
 use Rattle.shapes.specs.Shapes.{rest_of}
-use borrow.Author.Rules.{rules}
 use Rattle.shapes.proofs.parts_from.Goals as goal
 
 pub returns-in-Edged : goal.returns-in-Edged

@@ -1,5 +1,4 @@
 -- The parts are put in the order of the definition.
-use borrow.Author.Rules.{rules}
 use Rattle.writing.proofs.PutsLaws.{one_put, ◌then◌}
 use Rattle.time_lines.proofs.put_counts.Goals as goal
 

@@ -1,7 +1,6 @@
 -- The parts are put in the order of the definition, and are at most 6 + 43 + 1 + 43 + 1 + 10 + 1 + 10 + 1 bytes.
 use mathlib.Core.Path.{ap, ◌∙◌}
 use native.Mathlib.Omega.{arith}
-use borrow.Author.Rules.{rules}
 use mir.Facts.{to_z-of_z}
 use lib.ListN.{length-append}
 use Rattle.text.specs.Words.{bytes}

@@ -1,6 +1,5 @@
 -- The buffer first, then what the span says.
 use mathlib.Core.Path.{sym, ◌∙◌}
-use borrow.Author.Rules.{rules}
 use Rattle.command.specs.Causes.{first}
 use Rattle.window_lines.proofs.WindowLaws.{span_uncaused, span_caused}
 use Rattle.window_lines.proofs.window_refusal.Goals as goal

@@ -1,5 +1,4 @@
 -- In each arm the command is the case that the form is of.
-use borrow.Author.Rules.{rules}
 use Rattle.writer.proofs.CommandLaws.{command_written}
 use Rattle.writer.proofs.write_command.Goals as goal
 

@@ -1,5 +1,4 @@
 -- In each arm the reading is the case that is written.
-use borrow.Author.Rules.{rules}
 use Rattle.writer.specs.Written.{written_reading}
 use Rattle.writer.proofs.CommandLaws.{reading_written}
 use Rattle.writer.proofs.write_reading.Goals as goal

@@ -1,6 +1,5 @@
 -- The parts are put in the order of the definition. The numbers are passed on by their bits, which are read back as they were.
 use mathlib.Core.Path.{ap}
-use borrow.Author.Rules.{rules}
 use Rattle.text.proofs.OutputLaws.{put_same}
 use Rattle.numeral.specs.Digits.{signed_digits}
 use mir.Facts.{to_z-of_z}

@@ -2,7 +2,6 @@
 -- below zero, and the day of the month is one of its days.
 use Prim.Native.Nat.{◌+◌}
 use native.Mathlib.Omega.{arith}
-use borrow.Author.Rules.{rules}
 use Rattle.calendar.proofs.DateLaws.{year_holds, month_holds, at_both}
 use Rattle.calendar.proofs.YearLaws.{years_end}
 use Rattle.calendar.proofs.convert.date_at.Goals as goal

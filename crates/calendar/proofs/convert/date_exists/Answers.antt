@@ -1,7 +1,5 @@
 -- The two tests are the definition's, in its order.
 use mathlib.Core.Path.{sym, ◌∙◌}
-use borrow.Author.Rules.{rules}
-use borrow.Author.Tests.{not-true, not-false}
 use Rattle.calendar.specs.Calendar.{exists}
 use Rattle.calendar.proofs.convert.date_exists.Goals as goal
 

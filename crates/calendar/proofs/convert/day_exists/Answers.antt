@@ -1,5 +1,4 @@
 -- The six tests are the definition's, in its order.
-use borrow.Author.Rules.{rules}
 use borrow.Author.Tests.{le-leb, lt-leb}
 use Rattle.calendar.specs.Calendar.{day_exists}
 use Rattle.calendar.proofs.convert.day_exists.Goals as goal

@@ -1,7 +1,6 @@
 -- A date that exists has its year, month and day within their bounds, so that no
 -- difference is below zero and no sum is too large.
 use native.Mathlib.Omega.{arith}
-use borrow.Author.Rules.{rules}
 use Rattle.calendar.specs.Calendar.{day_number, second_number}
 use Rattle.calendar.proofs.DateLaws.{parts, day_most}
 use Rattle.calendar.proofs.YearLaws.{years_end}

@@ -1,7 +1,6 @@
 -- It is the closed form, by what February lacks.
 use mathlib.Core.Path.{sym, ◌∙◌}
 use native.Mathlib.Omega.{arith}
-use borrow.Author.Rules.{rules}
 use Rattle.calendar.proofs.MonthLaws.{months_early, months_leap, months_common}
 use Rattle.calendar.proofs.months.days_of_months.Goals as goal
 

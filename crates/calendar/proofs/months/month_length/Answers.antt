@@ -1,9 +1,7 @@
 -- Each arm's months have its length, by the months' laws.
 use mathlib.Core.Path.{sym, ◌∙◌}
 use mathlib.Core.Logic.{inl, inr}
-use borrow.Author.Rules.{rules}
 use Rattle.calendar.proofs.MonthLaws.{month_thirty, month_leap, month_common, month_long}
-use native.Mathlib.Omega.{arith}
 use Rattle.calendar.proofs.months.month_length.Goals as goal
 
 pub returns-in-4 : goal.returns-in-4

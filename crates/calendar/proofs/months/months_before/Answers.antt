@@ -1,7 +1,6 @@
 -- The days of the months are near their closed form, on either side of the test.
 use Prim.Native.Nat.{◌+◌, ◌/◌, ◌≤◌, ◌<◌}
 use native.Mathlib.Omega.{arith}
-use borrow.Author.Rules.{rules}
 use Rattle.calendar.specs.Calendar.{days_of_months}
 use Rattle.calendar.proofs.YearLaws.{year_most}
 use Rattle.calendar.proofs.MonthLaws.{months_few, months_near}

@@ -1,6 +1,5 @@
 -- It is the closed form.
 use native.Mathlib.Omega.{arith}
-use borrow.Author.Rules.{rules}
 use Rattle.calendar.proofs.YearLaws.{years_closed}
 use Rattle.calendar.proofs.years.days_of_years.Goals as goal
 

@@ -1,7 +1,6 @@
 -- By the closed form of the days of the years, on either side of the test.
 use Prim.Native.Nat.{◌+◌, ◌/◌, ◌<◌}
 use native.Mathlib.Omega.{arith}
-use borrow.Author.Rules.{rules}
 use Rattle.calendar.proofs.YearLaws.{years_closed, years_end}
 use Rattle.calendar.proofs.years.years_before.Goals as goal
 

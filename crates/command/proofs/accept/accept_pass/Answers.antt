@@ -1,6 +1,4 @@
 -- The form has one limit, and the test is it.
-use borrow.Author.Rules.{rules}
-use borrow.Author.Tests.{not-true, not-false}
 use native.Mathlib.Omega.{arith}
 use mathlib.Core.Path.{sym, ◌∙◌}
 use Rattle.command.specs.Forms as F

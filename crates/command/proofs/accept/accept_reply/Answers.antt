@@ -1,6 +1,4 @@
 -- Each test on the way is one limit of the form, in the definition's order.
-use borrow.Author.Rules.{rules}
-use borrow.Author.Tests.{not-true, not-false}
 use native.Mathlib.Omega.{arith}
 use mathlib.Core.Path.{sym, ◌∙◌}
 use Rattle.command.specs.Limits.{limited}

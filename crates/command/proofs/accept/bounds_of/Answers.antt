@@ -1,6 +1,5 @@
 -- An edge that is no i64 is outside the range, and the two that are keep their limits or
 -- not.
-use borrow.Author.Rules.{rules}
 use mathlib.Core.Path.{◌≡◌, sym, ◌∙◌}
 use mir.Syntax.{w64}
 use mir.Val.{to_z, of_z}

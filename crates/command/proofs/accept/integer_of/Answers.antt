@@ -1,5 +1,4 @@
 -- A magnitude that is an i64 is one of either sign.
-use borrow.Author.Rules.{rules}
 use native.Mathlib.Omega.{arith}
 use mathlib.Core.Path.{sym, ◌∙◌}
 use lib.IntN.{pos}

@@ -1,8 +1,5 @@
 -- The three tests are the definition's, in its order.
-use borrow.Author.Rules.{rules}
-use borrow.Author.Tests.{not-true, not-false}
 use mathlib.Core.Path.{sym, ◌∙◌}
-use mathlib.Core.Bool.{and-false}
 use Rattle.command.proofs.limits.start_within.Goals as goal
 
 pub returns-then-not-board_within : goal.returns-then-not-board_within

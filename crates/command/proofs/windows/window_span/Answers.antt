@@ -1,6 +1,5 @@
 -- The tests are those of the causes, in their order.
 use mathlib.Core.Path.{sym, ap, ◌∙◌}
-use borrow.Author.Tests.{not-true, not-false}
 use Rattle.moment.proofs.Integers.{ints, got}
 use Rattle.command.proofs.SpanLaws.{dated, not_dated, span_outside, span_not_begun, span_not_ended, span_empty, span_is}
 use borrow.Author.Rules.{rules}

@@ -1,7 +1,6 @@
 -- Each answer on the way is the next step of `day_at`.
 use mathlib.Core.Path.{sym, ◌∙◌}
 use Rattle.dates.specs.DateReading.{day_at}
-use borrow.Author.Rules.{rules}
 use Rattle.dates.proofs.read.day_at.Goals as goal
 
 pub returns-in_default : goal.returns-in_default

@@ -1,7 +1,6 @@
 -- Two bytes at the place, each a digit or not.
 use mathlib.Core.Path.{sym}
 use native.Mathlib.Omega.{arith}
-use borrow.Author.Rules.{rules}
 use Rattle.dates.proofs.DateLaws.{two_made, two_other, two_short}
 use Rattle.dates.proofs.read.two_at.Goals as goal
 

@@ -1,7 +1,6 @@
 -- Nineteen bytes, one part after the other.
 use mathlib.Core.Path.{refl}
 use native.Mathlib.Omega.{arith}
-use borrow.Author.Rules.{rules}
 use Rattle.dates.specs.DateText.{date_text}
 use Rattle.dates.proofs.PlacedLaws.{placed, placed_both, day_length, time_length}
 use Rattle.dates.proofs.write.put_date.Goals as goal

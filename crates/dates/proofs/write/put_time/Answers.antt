@@ -1,7 +1,6 @@
 -- Eight bytes, one part after the other.
 use mathlib.Core.Path.{refl}
 use native.Mathlib.Omega.{arith}
-use borrow.Author.Rules.{rules}
 use Rattle.dates.specs.DateText.{time_text}
 use Rattle.dates.proofs.PlacedLaws.{placed, placed_digits, placed_both}
 use Rattle.dates.proofs.write.put_time.Goals as goal

@@ -1,7 +1,6 @@
 -- The digits before the last four, and then these.
 use native.Mathlib.Omega.{arith}
 use Rattle.digits.proofs.FrontLaws.{parts_room, parts_more, parts_stop}
-use borrow.Author.Rules.{rules}
 use Rattle.digits.proofs.front.eight_front.Goals as goal
 
 pub returns-then-n-lt10000 : goal.returns-then-n-lt10000

@@ -1,7 +1,6 @@
 -- At most eight digits; or at most eight, and the last eight; or at most four, and the last sixteen.
 use native.Mathlib.Omega.{arith}
 use Rattle.digits.proofs.FrontLaws.{parts_room, parts_more, parts_stop}
-use borrow.Author.Rules.{rules}
 use Rattle.digits.proofs.front.number_front.Goals as goal
 
 pub returns-then-n-lt100000000 : goal.returns-then-n-lt100000000

@@ -10,7 +10,6 @@ use Rattle.numeral.specs.Digits.{digits, signed_digits}
 use Rattle.numeral.proofs.Digits.{digits_some}
 use Rattle.numeral.proofs.Sign.{below_zero, from_zero}
 use Rattle.digits.proofs.FrontLaws.{none_front, lent_most, lent_put, signed_below, signed_from, sign_front, sign_none}
-use borrow.Author.Rules.{rules}
 use Rattle.digits.proofs.front.signed_front.Goals as goal
 
 pub returns-then-part-eq0 : goal.returns-then-part-eq0

@@ -3,7 +3,6 @@ use native.Mathlib.Omega.{arith}
 use Rattle.numeral.proofs.Digits.{length_one}
 use Rattle.digits.proofs.WidthLaws.{length_last, two_digits}
 use Rattle.digits.proofs.FrontLaws.{none_front, first_front, put_front}
-use borrow.Author.Rules.{rules}
 use Rattle.digits.proofs.front.two_front.Goals as goal
 
 pub returns-then-part-more : goal.returns-then-part-more

@@ -1,7 +1,6 @@
 -- Four digits, and the four behind them.
 use native.Mathlib.Omega.{arith}
 use Rattle.digits.proofs.WidthLaws.{width_put, width_both}
-use borrow.Author.Rules.{rules}
 use Rattle.digits.proofs.width.put_eight.Goals as goal
 
 pub put_four-requires : goal.put_four-requires

@@ -1,7 +1,6 @@
 -- Two digits, and the two behind them.
 use native.Mathlib.Omega.{arith}
 use Rattle.digits.proofs.WidthLaws.{width_put, width_both}
-use borrow.Author.Rules.{rules}
 use Rattle.digits.proofs.width.put_four.Goals as goal
 
 pub put_two-requires : goal.put_two-requires

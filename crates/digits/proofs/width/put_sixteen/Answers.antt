@@ -1,7 +1,6 @@
 -- Eight digits, and the eight behind them.
 use native.Mathlib.Omega.{arith}
 use Rattle.digits.proofs.WidthLaws.{width_put, width_both}
-use borrow.Author.Rules.{rules}
 use Rattle.digits.proofs.width.put_sixteen.Goals as goal
 
 pub put_eight-requires : goal.put_eight-requires

@@ -2,7 +2,6 @@
 use native.Mathlib.Omega.{arith}
 use lib.ListN.{length-set}
 use Rattle.digits.proofs.WidthLaws.{two_put}
-use borrow.Author.Rules.{rules}
 use Rattle.digits.proofs.width.put_two.Goals as goal
 
 pub bounds-part-at-2 : goal.bounds-part-at-2

@@ -2,7 +2,6 @@
 use native.Mathlib.Omega.{arith}
 use Rattle.text.proofs.OutputLaws.{none_put}
 use Rattle.digits.proofs.FrontLaws.{lent_most, lent_put}
-use borrow.Author.Rules.{rules}
 use Rattle.digits.proofs.write.put_number.Goals as goal
 
 pub returns-then-out-at : goal.returns-then-out-at

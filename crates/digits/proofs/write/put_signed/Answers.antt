@@ -3,7 +3,6 @@ use native.Mathlib.Omega.{arith}
 use mir.Facts.{to_z-of_z}
 use Rattle.text.proofs.OutputLaws.{none_put}
 use Rattle.digits.proofs.FrontLaws.{lent_most, lent_put}
-use borrow.Author.Rules.{rules}
 use Rattle.digits.proofs.write.put_signed.Goals as goal
 
 pub returns-then-out-at : goal.returns-then-out-at

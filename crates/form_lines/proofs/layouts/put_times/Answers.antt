@@ -1,6 +1,5 @@
 -- The parts are put in the order of the definition, and are at most 3 * 20 + 2 + 1 + 2 bytes.
 use native.Mathlib.Omega.{arith}
-use borrow.Author.Rules.{rules}
 use lib.ListN.{length-append}
 use Rattle.numeral.proofs.Digits.{digits_most}
 use Rattle.writing.proofs.PutsLaws.{one_put, ◌then◌}

@@ -1,7 +1,6 @@
 -- Refused by the number, or the word put at the front.
 use mathlib.Core.Path.{sym, ◌∙◌}
 use native.Mathlib.Omega.{arith}
-use borrow.Author.Rules.{rules}
 use Rattle.writing.proofs.PutsLaws.{one_put}
 use Rattle.form_lines.specs.Written.{write_refusal}
 use Rattle.form_lines.proofs.WrittenLaws.{writes_refused, writes_put}

@@ -1,7 +1,6 @@
 -- Refused by the number, or the parts one after the other, at most 16 + 20 + 16 + 65 bytes.
 use mathlib.Core.Path.{sym, ◌∙◌}
 use native.Mathlib.Omega.{arith}
-use borrow.Author.Rules.{rules}
 use lib.ListN.{length-append}
 use Rattle.numeral.proofs.Digits.{digits_most}
 use Rattle.writing.proofs.PutsLaws.{one_put, ◌then◌}

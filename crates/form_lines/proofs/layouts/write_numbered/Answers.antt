@@ -1,8 +1,6 @@
 -- Refused by the number, or the three parts one after the other, at most 16 + 20 + 1 bytes.
 use mathlib.Core.Path.{sym, ◌∙◌}
 use native.Mathlib.Omega.{arith}
-use borrow.Author.Rules.{rules}
-use borrow.Author.Tests.{eqb-true, eqb-false, not-true, not-false}
 use lib.ListN.{length-append}
 use Rattle.numeral.proofs.Digits.{digits_most}
 use Rattle.writing.proofs.PutsLaws.{one_put, ◌then◌}

@@ -1,7 +1,6 @@
 -- Refused by the number, or the parts one after the other, at most 16 + 65 bytes.
 use mathlib.Core.Path.{sym, ◌∙◌}
 use native.Mathlib.Omega.{arith}
-use borrow.Author.Rules.{rules}
 use lib.ListN.{length-append}
 use Rattle.writing.proofs.PutsLaws.{one_put, ◌then◌}
 use Rattle.form_lines.specs.Written.{write_refusal}

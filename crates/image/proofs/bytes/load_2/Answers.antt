@@ -1,6 +1,5 @@
 use mathlib.Core.Path.{sym}
 use Rattle.image.proofs.ByteLaws.{number_2}
-use borrow.Author.Rules.{rules}
 use Rattle.image.proofs.bytes.load_2.Goals as goal
 
 pub returns : goal.returns

@@ -1,7 +1,6 @@
 -- Two numbers of half the width.
 use mathlib.Core.Path.{sym}
 use Rattle.image.proofs.ByteLaws.{number_4}
-use borrow.Author.Rules.{rules}
 use Rattle.image.proofs.bytes.load_4.Goals as goal
 
 pub returns : goal.returns

@@ -7,7 +7,6 @@ use mir.Syntax.{w64}
 use mir.Val.{SFits, to_z}
 use mir.Facts.{to_z-of_z, to_z_pos, to_z-neg}
 use Rattle.image.proofs.SignLaws.{one_below}
-use borrow.Author.Rules.{rules}
 use Rattle.image.proofs.bytes.signed_of.Goals as goal
 
 pub overflow_sub-result-2 : goal.overflow_sub-result-2

@@ -2,7 +2,6 @@ use native.Mathlib.Omega.{arith}
 use lib.ListN.{length-set}
 use Rattle.image.specs.Bytes.{stored}
 use Rattle.image.proofs.ByteLaws.{lowest_2}
-use borrow.Author.Rules.{rules}
 use Rattle.image.proofs.bytes.store_2.Goals as goal
 
 pub bounds-image-at-2 : goal.bounds-image-at-2

@@ -4,7 +4,6 @@ use mathlib.Core.List.{List}
 use Prim.Native.Nat.{ℕ, ◌+◌, ◌/◌, ◌%◌}
 use Rattle.image.specs.Bytes.{stored, lowest_first}
 use Rattle.image.proofs.ByteLaws.{lowest_4, stored_more}
-use borrow.Author.Rules.{rules}
 use Rattle.image.proofs.bytes.store_4.Goals as goal
 
 pub returns : goal.returns

@@ -1,10 +1,9 @@
 -- Each test is one of the definition's, in its order.
 use mathlib.Core.Path.{sym, ◌∙◌}
 use native.Mathlib.Omega.{arith}
-use borrow.Author.Tests.{not-true, not-false, eqb-true, eq-eqb, ne_eqb, le-leb, lt-leb}
+use borrow.Author.Tests.{eqb-true, eq-eqb, ne_eqb, le-leb, lt-leb}
 use lib.ListN.{length}
 use Rattle.image.specs.Layout.{image_length, readable}
-use borrow.Author.Rules.{rules}
 use Rattle.image.proofs.load.is_readable.Goals as goal
 
 pub returns-then-not-is_image : goal.returns-then-not-is_image

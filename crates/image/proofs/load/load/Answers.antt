@@ -1,9 +1,7 @@
 -- An image that can't be read is a fresh keeper's.
 use mathlib.Core.Path.{sym, ◌∙◌}
-use borrow.Author.Tests.{not-true, not-false}
 use Rattle.image.specs.Layout.{keeper_in}
 use Rattle.image.proofs.LayoutLaws.{readable_length}
-use borrow.Author.Rules.{rules}
 use Rattle.image.proofs.load.load.Goals as goal
 
 pub returns-then-not-is_readable : goal.returns-then-not-is_readable

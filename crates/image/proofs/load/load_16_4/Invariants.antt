@@ -1,7 +1,6 @@
 -- The numbers before the next one were read, and the others are 0.
 use Prim.Native.Nat.{◌-◌}
-use native.Mathlib.Omega.{arith}
-use Rattle.image.proofs.LoadLaws.{Loaded, loaded_none, loaded_more, loaded_all}
+use Rattle.image.proofs.LoadLaws.{Loaded}
 use Rattle.image.proofs.load.load_16_4.Given as goal
 
 abbrev pub invariant-loop-p : goal.invariant-loop-p

@@ -1,6 +1,5 @@
-use Prim.Native.Nat.{◌-◌}
 use native.Mathlib.Omega.{arith}
-use Rattle.image.proofs.LoadLaws.{Loaded, loaded_none, loaded_more, loaded_all}
+use Rattle.image.proofs.LoadLaws.{loaded_none, loaded_more, loaded_all}
 use Rattle.image.proofs.load.load_counts.Goals as goal
 
 pub loop-p-init : goal.loop-p-init

@@ -1,7 +1,6 @@
 -- The numbers before the next one were put.
 use Prim.Native.Nat.{◌-◌}
-use native.Mathlib.Omega.{arith}
-use Rattle.image.proofs.StoreLaws.{Filled, filled_none, filled_more, filled_length, filled_all}
+use Rattle.image.proofs.StoreLaws.{Filled}
 use Rattle.image.proofs.store.store_16_4.Given as goal
 
 abbrev pub invariant-loop-p : goal.invariant-loop-p

@@ -1,6 +1,5 @@
-use Prim.Native.Nat.{◌-◌}
 use native.Mathlib.Omega.{arith}
-use Rattle.image.proofs.StoreLaws.{Filled, filled_none, filled_more, filled_length, filled_all}
+use Rattle.image.proofs.StoreLaws.{filled_none, filled_more, filled_length, filled_all}
 use Rattle.image.proofs.store.store_counts.Goals as goal
 
 pub loop-p-init : goal.loop-p-init

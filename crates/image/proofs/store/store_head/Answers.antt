@@ -5,7 +5,6 @@ use Prim.Native.Nat.{ℕ}
 use Rattle.image.specs.Bytes.{stored, lowest_first}
 use Rattle.image.specs.Layout.{mark_bytes}
 use Rattle.image.proofs.ByteLaws.{stored_more}
-use borrow.Author.Rules.{rules}
 use Rattle.image.proofs.store.store_head.Goals as goal
 
 pub returns : goal.returns

@@ -1,5 +1,4 @@
 use Rattle.image.specs.Bytes.{stored}
-use borrow.Author.Rules.{rules}
 use Rattle.image.proofs.store.store_marks.Goals as goal
 
 pub returns : goal.returns

@@ -1,5 +1,4 @@
 -- Each test is a clause of the definition, in its order.
-use borrow.Author.Rules.{rules}
 use borrow.Author.Tests.{not-true, not-false, le-leb, lt-leb}
 use mathlib.Core.Path.{sym, ◌∙◌}
 use Rattle.keeper.specs.State.{counts_as_started}

@@ -1,5 +1,4 @@
 -- Where no cause holds, the peer waits and its request can be ended.
-use borrow.Author.Rules.{rules}
 use borrow.Author.Tests.{not-false}
 use mathlib.Core.Path.{sym, ◌∙◌}
 use Rattle.command.specs.declared.Command.TheVariants as C

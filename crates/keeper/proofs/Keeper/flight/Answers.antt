@@ -1,5 +1,4 @@
 -- Where no cause holds, the peer has places, and its times are set.
-use borrow.Author.Rules.{rules}
 use borrow.Author.Tests.{not-false}
 use mathlib.Core.Path.{sym, ◌∙◌}
 use Rattle.command.specs.declared.Command.TheVariants as C

@@ -1,6 +1,5 @@
 -- The tests are the causes, in their order; the sum of the ticks is made after they are known to be few.
-use borrow.Author.Rules.{rules}
-use borrow.Author.Tests.{not-true, not-false, le-leb, lt-leb}
+use borrow.Author.Tests.{le-leb, lt-leb}
 use mathlib.Core.Path.{refl, sym, ◌∙◌}
 use native.Mathlib.Omega.{arith}
 use Rattle.command.specs.declared.Command.TheVariants as C

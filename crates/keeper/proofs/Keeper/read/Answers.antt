@@ -1,6 +1,4 @@
 -- The edges of a keeper that counts as started are in order, so centre and error fit.
-use borrow.Author.Rules.{rules}
-use borrow.Author.Tests.{not-true, not-false}
 use mathlib.Core.Path.{◌≡◌, refl, sym, ◌∙◌}
 use mathlib.Core.Bool.{true}
 use Rattle.command.specs.declared.Command.TheVariants as C

@@ -1,16 +1,13 @@
 -- Past the causes before it, the verdict is that of the definition, and refusal 5 goes by it.
-use borrow.Author.Rules.{rules}
 use mathlib.Core.Path.{◌≡◌, refl, sym, ap, ◌∙◌}
-use Prim.Native.Nat.{◌-◌}
 use native.Mathlib.Omega.{arith}
-use lib.ListN.{get_or}
 use Rattle.moment.proofs.Integers.{got}
 use Rattle.rules.specs.Verdict.{leaves}
 use Rattle.rules.proofs.Fits.{wait_span}
 use Rattle.command.specs.Causes.{first}
 use Rattle.command.specs.declared.Command.TheVariants as C
 use Rattle.keeper.specs.State.{state_of}
-use Rattle.keeper.specs.Refusals.{reply_bracket, reply_verdict, refusal}
+use Rattle.keeper.specs.Refusals.{reply_bracket, reply_verdict}
 use Rattle.keeper.specs.Apply.{replied, accepted}
 use Rattle.keeper.proofs.CallLaws.{Found, apply_refused, apply_accepted, apply_number_refused, reply_holds, reply_past, reply_found}
 use Rattle.keeper.proofs.StartedLaws.{started_read, sent_by}

@@ -1,5 +1,4 @@
 -- Where no cause holds, the peer does not wait and one more tag can be given.
-use borrow.Author.Rules.{rules}
 use borrow.Author.Tests.{not-false, leb-false}
 use mathlib.Core.Path.{sym, ◌∙◌}
 use native.Mathlib.Omega.{arith}

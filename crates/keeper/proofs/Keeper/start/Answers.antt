@@ -1,6 +1,4 @@
 -- The tests are the causes, in their order.
-use borrow.Author.Rules.{rules}
-use borrow.Author.Tests.{not-true, not-false}
 use mathlib.Core.Path.{refl, sym, ◌∙◌}
 use Rattle.command.specs.declared.Command.TheVariants as C
 use Rattle.command.specs.Causes.{first, own_causes}

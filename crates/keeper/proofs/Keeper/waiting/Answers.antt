@@ -1,6 +1,4 @@
 -- The one cause is that it has not started.
-use borrow.Author.Rules.{rules}
-use borrow.Author.Tests.{not-true, not-false}
 use mathlib.Core.Path.{refl, sym, ◌∙◌}
 use Rattle.command.specs.declared.Command.TheVariants as C
 use Rattle.keeper.specs.State.{state_of}

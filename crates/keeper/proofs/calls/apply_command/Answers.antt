@@ -1,5 +1,4 @@
 -- Each arm is the call of its command.
-use borrow.Author.Rules.{rules}
 use Rattle.keeper.proofs.calls.apply_command.Goals as goal
 
 pub returns-in-Start : goal.returns-in-Start

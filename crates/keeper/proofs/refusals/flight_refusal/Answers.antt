@@ -2,8 +2,6 @@
 use mathlib.Core.Path.{◌≡◌}
 use mathlib.Core.List.{[], ◌∷◌}
 use Rattle.command.specs.Causes.{cause}
-use borrow.Author.Rules.{rules}
-use borrow.Author.Tests.{not-true, not-false}
 use mathlib.Core.Path.{refl, sym, ◌∙◌}
 use Rattle.command.specs.Causes.{first}
 use Rattle.command.specs.declared.Command.TheVariants as C

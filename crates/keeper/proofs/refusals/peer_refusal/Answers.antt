@@ -1,6 +1,5 @@
 -- The tests are the causes, in their order.
-use borrow.Author.Rules.{rules}
-use borrow.Author.Tests.{not-true, not-false, eq-eqb, ne_eqb}
+use borrow.Author.Tests.{eq-eqb, ne_eqb}
 use mathlib.Core.Path.{sym, ◌∙◌}
 use Rattle.command.specs.Causes.{first}
 use Rattle.keeper.specs.State.{state_of}

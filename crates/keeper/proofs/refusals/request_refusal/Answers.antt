@@ -4,8 +4,7 @@ use mathlib.Core.List.{[], ◌∷◌}
 use lib.Dec.{leb}
 use Rattle.command.specs.Causes.{cause}
 use Rattle.keeper.specs.State.{most_requests}
-use borrow.Author.Rules.{rules}
-use borrow.Author.Tests.{not-true, not-false, le-leb, lt-leb}
+use borrow.Author.Tests.{le-leb, lt-leb}
 use mathlib.Core.Path.{refl, sym, ◌∙◌}
 use Rattle.command.specs.Causes.{first}
 use Rattle.command.specs.declared.Command.TheVariants as C

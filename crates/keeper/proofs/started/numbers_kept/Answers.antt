@@ -1,6 +1,5 @@
 -- Each test is one of the definition's, in its order.
-use borrow.Author.Rules.{rules}
-use borrow.Author.Tests.{not-true, not-false, le-leb, lt-leb}
+use borrow.Author.Tests.{le-leb, lt-leb}
 use mathlib.Core.Path.{sym, ◌∙◌}
 use Rattle.keeper.specs.State.{numbers_kept}
 use Rattle.keeper.proofs.started.numbers_kept.Goals as goal

@@ -1,5 +1,4 @@
 -- A bit that is not set leaves room for its power.
-use borrow.Author.Rules.{rules}
 use native.Mathlib.Omega.{arith}
 use Rattle.keeper.specs.Apply.{changed, asked}
 use Rattle.bits.proofs.BitLaws.{bit_room}

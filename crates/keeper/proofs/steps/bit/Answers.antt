@@ -1,5 +1,4 @@
 -- The power fits the mask.
-use borrow.Author.Rules.{rules}
 use native.Mathlib.Omega.{arith}
 use lib.Pow.{pow-lt}
 use Rattle.keeper.proofs.steps.bit.Goals as goal

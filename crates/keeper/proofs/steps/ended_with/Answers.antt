@@ -1,5 +1,4 @@
 -- A bit that is set is at most the mask.
-use borrow.Author.Rules.{rules}
 use native.Mathlib.Omega.{arith}
 use Rattle.keeper.specs.Apply.{changed, ended}
 use Rattle.bits.proofs.BitLaws.{bit_le}

@@ -1,5 +1,4 @@
 -- The request is ended with the verdict's edges and count.
-use borrow.Author.Rules.{rules}
 use Rattle.keeper.specs.Apply.{replied}
 use Rattle.keeper.proofs.steps.replied_with.Goals as goal
 

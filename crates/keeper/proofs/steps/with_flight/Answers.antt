@@ -1,5 +1,4 @@
 -- The two arrays are changed at the peer's place.
-use borrow.Author.Rules.{rules}
 use mathlib.Core.Path.{refl}
 use Rattle.keeper.specs.Apply.{with_flight}
 use Rattle.keeper.proofs.steps.with_flight.Goals as goal

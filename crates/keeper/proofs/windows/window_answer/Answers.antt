@@ -1,7 +1,5 @@
 -- The window's own refusals, then 3, then the word.
 use mathlib.Core.Path.{sym, ◌∙◌}
-use borrow.Author.Rules.{rules}
-use borrow.Author.Tests.{not-true, not-false}
 use Rattle.keeper.proofs.WindowLaws.{answer_refused, answer_not_started, answer_heater}
 use Rattle.keeper.proofs.windows.window_answer.Goals as goal
 

@@ -1,6 +1,5 @@
 -- The two tests are the definition's.
 use borrow.Author.Rules.{rules}
-use borrow.Author.Tests.{not-true, not-false}
 use mathlib.Core.Path.{sym, ◌∙◌}
 use Rattle.moment.proofs.Integers.{got}
 use Rattle.moment.specs.Intervals.{both_in_range}

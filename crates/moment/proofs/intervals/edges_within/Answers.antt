@@ -1,9 +1,6 @@
 -- The three tests are the definition's, in its order.
 use borrow.Author.Rules.{rules}
-use borrow.Author.Tests.{not-true, not-false}
-use mathlib.Core.Path.{◌≡◌, sym, ◌∙◌}
-use mathlib.Core.Bool.{true}
-use Rattle.moment.specs.Moment.{in_range}
+use mathlib.Core.Path.{sym, ◌∙◌}
 use Rattle.moment.proofs.Integers.{got}
 use Rattle.moment.specs.Intervals.{edges_within}
 use Rattle.moment.proofs.intervals.edges_within.Goals as goal

@@ -1,5 +1,5 @@
 -- Each byte is told to be what a group has there, or the answer is 1000.
-use Rattle.std.proofs.Common.{sym, arith, rules}
+use Rattle.std.proofs.Common.{sym, arith}
 use Rattle.numeral.proofs.GroupReading.{group_short, group_no_underscore, group_first, group_second, group_third, group_here}
 use Rattle.numeral.proofs.groups.group_at.Goals as goal
 

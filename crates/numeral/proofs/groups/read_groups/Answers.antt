@@ -1,7 +1,4 @@
-use Rattle.std.proofs.Common.{◌≡◌, ◌-◌, drop, sym, refl, ◌∙◌, ⊎_elim, arith, rules}
-use borrow.Author.Tests.{not-true, not-false}
-use Rattle.numeral.specs.Progress.{Counted}
-use Rattle.numeral.specs.Reading.{groups_from}
+use Rattle.std.proofs.Common.{drop, sym, refl, ◌∙◌, arith}
 use Rattle.numeral.proofs.GroupReading.{counted_room, turn_inside, turn_counted, turn_answer, groups_full, groups_over, ended_here, ended_on}
 use Rattle.numeral.proofs.groups.read_groups.Goals as goal
 use Rattle.numeral.proofs.groups.read_groups.Goals.{else-loop-count-test, then-loop-count-test+then-group-gt999}
@@ -36,7 +33,7 @@ returns-then-not-numeral_ends c =
     sym
     (loop.invariant.0
     ∙ elim c.loop-count-test.branch [
-      else-loop-count-test w ↦ groups_full loop.value loop.count loop.next (drop loop.next line) (omega arith)
+      | else-loop-count-test w ↦ groups_full loop.value loop.count loop.next (drop loop.next line) (omega arith)
       | then-loop-count-test+then-group-gt999 w ↦ groups_over loop.value loop.count loop.next (drop loop.next line) (rw (← w.group_at-group.ensures) w.if-group-gt999.true)
     ]
     ∙ ended_on loop.value loop.next (drop loop.next line) (sym c.numeral_ends.ensures ∙ c.if-not-numeral_ends.true))
@@ -48,7 +45,7 @@ returns c =
     sym
     (loop.invariant.0
     ∙ elim c.loop-count-test.branch [
-      else-loop-count-test w ↦ groups_full loop.value loop.count loop.next (drop loop.next line) (omega arith)
+      | else-loop-count-test w ↦ groups_full loop.value loop.count loop.next (drop loop.next line) (omega arith)
       | then-loop-count-test+then-group-gt999 w ↦ groups_over loop.value loop.count loop.next (drop loop.next line) (rw (← w.group_at-group.ensures) w.if-group-gt999.true)
     ]
     ∙ ended_here loop.value loop.next (drop loop.next line) (sym c.numeral_ends.ensures ∙ c.if-not-numeral_ends.false))

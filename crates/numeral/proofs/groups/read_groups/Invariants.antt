@@ -1,10 +1,8 @@
 -- The loop's invariant: what is answered from here on is the answer, and the digits read so far
 -- are counted. The measure is how many digits are left.
-use Rattle.std.proofs.Common.{◌≡◌, ◌-◌, drop, sym, refl, ◌∙◌, ⊎_elim, arith, rules}
-use borrow.Author.Tests.{not-true, not-false}
+use Rattle.std.proofs.Common.{◌≡◌, ◌-◌, drop}
 use Rattle.numeral.specs.Progress.{Counted}
 use Rattle.numeral.specs.Reading.{groups_from}
-use Rattle.numeral.proofs.GroupReading.{counted_room, turn_inside, turn_counted, turn_answer, groups_full, groups_over, ended_here, ended_on}
 use Rattle.numeral.proofs.groups.read_groups.Given as goal
 
 abbrev pub invariant-loop-count : goal.invariant-loop-count

@@ -1,5 +1,5 @@
 -- 48 more than its answer is the byte, modulo 2^64, and a byte is below 256.
-use Rattle.std.proofs.Common.{arith, rules}
+use Rattle.std.proofs.Common.{arith}
 use Rattle.numeral.proofs.Reading.{not_digit}
 use Rattle.numeral.proofs.read.digit.Goals as goal
 

@@ -1,5 +1,5 @@
 -- The number of digits and the first of them pick the answer.
-use Rattle.std.proofs.Common.{sym, ◌∙◌, arith, rules}
+use Rattle.std.proofs.Common.{sym, arith}
 use Rattle.numeral.proofs.Answers.{absent_none, absent_zero, number_one, number_more}
 use Rattle.numeral.proofs.read.ended.Goals as goal
 

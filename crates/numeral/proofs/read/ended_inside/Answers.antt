@@ -1,5 +1,5 @@
 -- The value and the first two bytes pick the answer.
-use Rattle.std.proofs.Common.{sym, ◌∙◌, arith, rules}
+use Rattle.std.proofs.Common.{sym, arith}
 use Rattle.numeral.proofs.Answers.{second_inside, inside_zeros, inside_zero, inside_none, inside_some}
 use Rattle.numeral.proofs.read.ended_inside.Goals as goal
 

@@ -1,5 +1,5 @@
 -- The number of digits before what goes on and the first of them pick the answer.
-use Rattle.std.proofs.Common.{sym, ◌∙◌, arith, rules}
+use Rattle.std.proofs.Common.{sym, ◌∙◌, arith}
 use Rattle.numeral.proofs.Answers.{first_none, first_long, first_zero, first_some}
 use Rattle.numeral.proofs.read.first_group.Goals as goal
 

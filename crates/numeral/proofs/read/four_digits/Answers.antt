@@ -1,5 +1,5 @@
 -- Each byte is told to be a digit on the way, or the answer is above 9999.
-use Rattle.std.proofs.Common.{arith, rules}
+use Rattle.std.proofs.Common.{arith}
 use Rattle.numeral.proofs.Reading.{digit_here, four_here}
 use Rattle.numeral.proofs.read.four_digits.Goals as goal
 

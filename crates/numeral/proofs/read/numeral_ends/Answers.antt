@@ -1,5 +1,5 @@
 -- A `_` goes on, and of another byte `digit` tells it.
-use Rattle.std.proofs.Common.{sym, rules}
+use Rattle.std.proofs.Common.{sym}
 use Rattle.numeral.proofs.Reading.{ends_at_end, goes_on_underscore, ends_told}
 use Rattle.numeral.proofs.read.numeral_ends.Goals as goal
 

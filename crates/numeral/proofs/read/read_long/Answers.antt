@@ -1,6 +1,5 @@
-use Rattle.std.proofs.Common.{◌-◌, sym, ◌∙◌, arith, rules}
+use Rattle.std.proofs.Common.{sym, ◌∙◌, arith}
 use borrow.Author.Tests.{not-true, not-false}
-use Rattle.numeral.specs.Progress.{Progress}
 use Rattle.numeral.proofs.Reading.{progress_none, progress_more, room}
 use Rattle.numeral.proofs.read.read_long.Goals as goal
 

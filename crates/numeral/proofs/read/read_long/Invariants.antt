@@ -1,9 +1,7 @@
 -- The loop's invariant is that of `read_on`, which goes on from where the loop ends. The measure
 -- is what is left up to the end.
-use Rattle.std.proofs.Common.{◌-◌, sym, ◌∙◌, arith, rules}
-use borrow.Author.Tests.{not-true, not-false}
+use Rattle.std.proofs.Common.{◌-◌}
 use Rattle.numeral.specs.Progress.{Progress}
-use Rattle.numeral.proofs.Reading.{progress_none, progress_more, room}
 use Rattle.numeral.proofs.read.read_long.Given as goal
 
 abbrev pub invariant-loop-next : goal.invariant-loop-next

@@ -1,5 +1,5 @@
 -- `read_on` reads from the place on at which no digit is read yet, and where it stops says which of the two answers.
-use Rattle.std.proofs.Common.{sym, ◌∙◌, rules}
+use Rattle.std.proofs.Common.{sym, ◌∙◌}
 use borrow.Author.Tests.{not-true, not-false}
 use Rattle.numeral.proofs.Reading.{progress_none}
 use Rattle.numeral.proofs.read.read_number.Goals as goal

@@ -1,6 +1,5 @@
-use Rattle.std.proofs.Common.{◌-◌, arith, rules}
+use Rattle.std.proofs.Common.{arith}
 use Rattle.bits.proofs.Tests.{clash}
-use Rattle.numeral.specs.Progress.{Progress}
 use Rattle.numeral.proofs.Reading.{digit_here, progress_more, room, ends_at_end, ends_other, underscore_here, up_to_ended, up_to_stopped}
 use Rattle.numeral.proofs.read.read_on.Goals as goal
 

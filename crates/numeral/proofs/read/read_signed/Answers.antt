@@ -1,5 +1,5 @@
 -- What `word_at` and `read_long` answer on the way picks the case of `signed_at`.
-use Rattle.std.proofs.Common.{sym, ◌∙◌, rules, eq-eqb, ne_eqb}
+use Rattle.std.proofs.Common.{sym, ◌∙◌, eq-eqb, ne_eqb}
 use Rattle.numeral.specs.Reading.{signed_at, signed_from, unsigned, negated}
 use Rattle.numeral.proofs.read.read_signed.Goals as goal
 

@@ -1,6 +1,5 @@
 -- The numeral ends there, or goes on.
-use Rattle.std.proofs.Common.{sym, ◌∙◌, rules}
-use borrow.Author.Tests.{not-true, not-false}
+use Rattle.std.proofs.Common.{sym, ◌∙◌}
 use Rattle.numeral.proofs.read.stopped.Goals as goal
 
 pub ended-requires : goal.ended-requires

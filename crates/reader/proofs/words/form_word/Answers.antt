@@ -1,14 +1,11 @@
 -- The shapes' words are looked for in the definition's order.
 -- After each word that does not stand at the place: the line, the place, and the shapes that are left.
 use mathlib.Core.Path.{◌≡◌, sym, ◌∙◌}
-use mathlib.Core.List.{List}
-use Prim.Native.Nat.{ℕ}
 use lib.ListN.{drop}
 use Rattle.shapes.specs.Shapes.{numbered_shape, reply_shape}
 use Rattle.reader.specs.Reading.{shapes, word_of, word_from}
 use Rattle.shapes.specs.declared.Numbered.TheVariants as N
 use Rattle.reader.proofs.GrammarLaws.{word_passed, word_taken}
-use borrow.Author.Rules.{rules}
 use Rattle.reader.proofs.words.form_word.Goals as goal
 
 pub returns-in-After : goal.returns-in-After

@@ -1,13 +1,11 @@
 -- The shapes' words are looked for in the definition's order.
 -- After each word that does not stand at the place: the line, the place, and the shapes that are left.
 use mathlib.Core.Path.{◌≡◌, sym, ◌∙◌}
-use mathlib.Core.List.{List, []}
-use Prim.Native.Nat.{ℕ}
+use mathlib.Core.List.{[]}
 use lib.ListN.{drop}
 use Rattle.shapes.specs.Shapes.{window_shape, flight_shape, start_shape}
 use Rattle.reader.specs.Reading.{last_shapes, word_of}
 use Rattle.reader.proofs.GrammarLaws.{word_passed, word_taken}
-use borrow.Author.Rules.{rules}
 use Rattle.reader.proofs.words.last_word.Goals as goal
 
 pub returns-in-After : goal.returns-in-After

@@ -1,15 +1,12 @@
 -- The shapes' words are looked for in the definition's order.
 -- After each word that does not stand at the place: the line, the place, and the shapes that are left.
 use mathlib.Core.Path.{◌≡◌, sym, ◌∙◌}
-use mathlib.Core.List.{List}
-use Prim.Native.Nat.{ℕ}
 use lib.ListN.{drop}
 use Rattle.shapes.specs.Shapes.{bare_shape, numbered_shape}
 use Rattle.reader.specs.Reading.{rare_shapes, word_of}
 use Rattle.shapes.specs.declared.Numbered.TheVariants as N
 use Rattle.shapes.specs.declared.Bare.TheVariants as B
 use Rattle.reader.proofs.GrammarLaws.{word_passed, word_taken}
-use borrow.Author.Rules.{rules}
 use Rattle.reader.proofs.words.rare_word.Goals as goal
 
 pub returns-in-After : goal.returns-in-After

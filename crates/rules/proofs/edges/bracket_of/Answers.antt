@@ -1,5 +1,4 @@
 -- A tick, the wait and the flight times are short, so the edges with them fit.
-use borrow.Author.Rules.{rules}
 use native.Mathlib.Omega.{arith}
 use mir.Facts.{to_z-of_z}
 use Rattle.moment.proofs.Integers.{got, widened}

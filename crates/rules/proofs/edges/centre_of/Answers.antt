@@ -1,5 +1,4 @@
 -- The sum of the told edges fits.
-use borrow.Author.Rules.{rules}
 use mathlib.Core.Path.{ap}
 use native.Mathlib.Omega.{arith}
 use Rattle.moment.specs.Moment.{floor_half}

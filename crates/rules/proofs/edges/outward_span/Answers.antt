@@ -1,5 +1,4 @@
 -- The wait and one tick are the ticks of the wait and one more.
-use borrow.Author.Rules.{rules}
 use mathlib.Core.Path.{ap, ◌∙◌}
 use native.Mathlib.Omega.{arith}
 use lib.IntN.{ℤ}

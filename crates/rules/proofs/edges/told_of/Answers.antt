@@ -1,5 +1,4 @@
 -- The upper edge with one tick fits.
-use borrow.Author.Rules.{rules}
 use native.Mathlib.Omega.{arith}
 use mir.Facts.{to_z-of_z}
 use Rattle.moment.proofs.Integers.{got}

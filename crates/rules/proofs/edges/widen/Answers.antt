@@ -1,5 +1,4 @@
 -- The two spans are those of the definition.
-use borrow.Author.Rules.{rules}
 use Rattle.moment.proofs.Integers.{got}
 use Rattle.rules.specs.Rules.{widened}
 use Rattle.rules.proofs.edges.widen.Goals as goal

@@ -1,5 +1,4 @@
 -- Only a conflict counts.
-use borrow.Author.Rules.{rules}
 use Rattle.rules.proofs.judge.conflicts_after.Goals as goal
 
 pub returns-in-Conflict : goal.returns-in-Conflict

@@ -1,6 +1,4 @@
 -- The conflict is tested before the rule.
-use borrow.Author.Rules.{rules}
-use borrow.Author.Tests.{not-true, not-false}
 use mathlib.Core.Path.{sym, ◌∙◌}
 use mir.Facts.{to_z-of_z}
 use Rattle.rules.specs.Rules.{conflicting}

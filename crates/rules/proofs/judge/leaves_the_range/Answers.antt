@@ -1,5 +1,4 @@
 -- Only edges that are taken are tested.
-use borrow.Author.Rules.{rules}
 use Rattle.rules.specs.Verdict.{leaves}
 use Rattle.rules.proofs.judge.leaves_the_range.Goals as goal
 

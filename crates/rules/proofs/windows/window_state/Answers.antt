@@ -1,9 +1,7 @@
 -- Each test of the told edges is the next one of the laws by the edges.
-use mathlib.Core.Path.{◌≡◌, sym}
+use mathlib.Core.Path.{sym}
 use borrow.Author.Rules.{rules}
 use native.Mathlib.Omega.{arith}
-use mir.Syntax.{w64}
-use mir.Val.{to_z, of_z}
 use Rattle.moment.proofs.Integers.{ints, got}
 use Rattle.moment.proofs.Within.{within_read}
 use Rattle.rules.specs.Rules.{told}

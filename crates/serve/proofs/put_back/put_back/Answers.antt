@@ -1,5 +1,4 @@
 -- In each arm the answer is the case that the definition has.
-use borrow.Author.Rules.{rules}
 use Rattle.serve.proofs.put_back.put_back.Goals as goal
 
 pub returns-in-Started : goal.returns-in-Started

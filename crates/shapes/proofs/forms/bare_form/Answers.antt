@@ -2,7 +2,6 @@
 use mathlib.Core.Path.{sym, ◌∙◌}
 use Rattle.command.specs.Limits.{limited}
 use Rattle.shapes.specs.Shapes.{shaped_from, read_parts}
-use borrow.Author.Rules.{rules}
 use Rattle.shapes.proofs.forms.bare_form.Goals as goal
 
 pub returns-in_default : goal.returns-in_default

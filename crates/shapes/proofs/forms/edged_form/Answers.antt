@@ -1,5 +1,4 @@
 -- Each word is followed by its shape's parts.
-use borrow.Author.Rules.{rules}
 use Rattle.shapes.proofs.forms.edged_form.Goals as goal
 
 pub returns-in-Start : goal.returns-in-Start

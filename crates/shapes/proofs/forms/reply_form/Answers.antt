@@ -2,7 +2,6 @@
 use mathlib.Core.Path.{sym, ap, ◌∙◌}
 use Rattle.shapes.specs.Parts.{edges_read}
 use Rattle.shapes.specs.Shapes.{shaped_from, read_parts}
-use borrow.Author.Rules.{rules}
 use Rattle.shapes.proofs.forms.reply_form.Goals as goal
 
 pub returns-in_default : goal.returns-in_default

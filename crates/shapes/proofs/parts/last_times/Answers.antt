@@ -1,7 +1,6 @@
 -- Each answer on the way is the next case of `read_parts`.
 use mathlib.Core.Path.{sym, ◌∙◌}
 use Rattle.shapes.specs.Shapes.{read_parts}
-use borrow.Author.Rules.{rules}
 use Rattle.shapes.proofs.parts.last_times.Goals as goal
 
 pub returns-in_default : goal.returns-in_default

@@ -1,7 +1,6 @@
 -- The answers of `word_at` pick the case of `rule_at`.
 use mathlib.Core.Path.{sym, ◌∙◌}
 use Rattle.shapes.specs.Shapes.{rule_at}
-use borrow.Author.Rules.{rules}
 use Rattle.shapes.proofs.parts.rule_at.Goals as goal
 
 pub returns-in-After : goal.returns-in-After

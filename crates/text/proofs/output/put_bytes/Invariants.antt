@@ -1,11 +1,8 @@
 -- The loop's invariant: the output is what it was with the first i bytes of s pasted over it from the place on. Each turn pastes one byte more.
-use mathlib.Core.Path.{◌≡◌, refl, ◌∙◌}
+use mathlib.Core.Path.{◌≡◌}
 use Prim.Native.Nat.{◌-◌, ◌≤◌}
-use native.Mathlib.Numerals.{add-one}
-use native.Mathlib.Omega.{arith}
-use lib.ListN.{length, length-set}
-use lib.Seq.{paste, paste-zero, paste-suc, take-length}
-use Rattle.text.proofs.OutputLaws.{room_put, none_put}
+use lib.ListN.{length}
+use lib.Seq.{paste}
 use Rattle.text.proofs.output.put_bytes.Given as goal
 
 abbrev pub invariant-loop-i : goal.invariant-loop-i

@@ -1,10 +1,9 @@
 use mathlib.Core.Path.{◌≡◌, sym, ap, ◌∙◌}
-use Prim.Native.Nat.{◌+◌, ◌-◌, ◌≤◌}
+use Prim.Native.Nat.{◌+◌}
 use native.Mathlib.Nat.{add-zero}
 use native.Mathlib.Omega.{arith}
 use borrow.Author.Rules.{rules}
 use lib.ListN.{length, drop, length-drop}
-use Rattle.text.specs.Words.{starts_with}
 use Rattle.text.specs.declared.words.Word.TheVariants.{After}
 use Rattle.text.proofs.WordLaws.{starts_empty, starts_same, starts_differ, word_here, word_other, word_short}
 use Rattle.text.proofs.words.word_at.Goals as goal

@@ -1,13 +1,8 @@
 -- The loop's invariant: the word begins the line from the place on exactly when what is left of the word begins what is left of the line. Each turn takes one byte of both.
-use mathlib.Core.Path.{◌≡◌, sym, ap, ◌∙◌}
+use mathlib.Core.Path.{◌≡◌}
 use Prim.Native.Nat.{◌+◌, ◌-◌, ◌≤◌}
-use native.Mathlib.Nat.{add-zero}
-use native.Mathlib.Omega.{arith}
-use borrow.Author.Rules.{rules}
-use lib.ListN.{length, drop, length-drop}
+use lib.ListN.{length, drop}
 use Rattle.text.specs.Words.{starts_with}
-use Rattle.text.specs.declared.words.Word.TheVariants.{After}
-use Rattle.text.proofs.WordLaws.{starts_empty, starts_same, starts_differ, word_here, word_other, word_short}
 use Rattle.text.proofs.words.word_at.Given as goal
 
 abbrev pub invariant-loop-i : goal.invariant-loop-i
