@@ -1,18 +1,17 @@
 -- The program's turns are turns over its input, however it is cut into reads, and so what it writes is the answers to the lines of its input.
 use mathlib.Core.Path.{◌≡◌, refl, sym, ap, ◌∙◌}
 use mathlib.Core.Bool.{Bool, true, false}
-use mathlib.Core.List.{List, [], ◌∷◌, ◌++◌, map, append-nil}
-use Prim.Native.Nat.{ℕ, ◌+◌, ◌≤◌, ◌<◌}
+use mathlib.Core.List.{List, [], ◌∷◌, ◌++◌, map}
+use Prim.Native.Nat.{ℕ, ◌+◌, ◌<◌}
 use native.Mathlib.Omega.{arith}
 use borrow.Author.Tests.{lt-leb}
-use lib.ListN.{length, take, drop}
+use lib.ListN.{length, take}
 use lib.Seq.{take-add, drop-append-le, length-take-le}
 use Rattle.command.specs.declared.Reading.TheVariants.{NoShape}
 use Rattle.reader.specs.Reading.{longest_line, reading_of}
 use Rattle.keeper.specs.State.{fresh}
 use Rattle.keeper.specs.declared.Keeper.{Keeper}
-use Rattle.writing.specs.Puts.{least_output}
-use Rattle.line.specs.Call.{by_reading, answered, keeper_after}
+use Rattle.line.specs.Call.{answered, keeper_after}
 use Rattle.history.specs.Demand3.{keeper_through}
 use Rattle.bits.proofs.Tests.{clash, by_test}
 use Rattle.history.proofs.Theorem.{demand_3}
@@ -24,7 +23,7 @@ use Rattle.stream.proofs.Theorem.{answers_the_input}
 use Rattle.serve.specs.Serving.{keeper_next, answer_to}
 use Rattle.program.specs.Turning.{between, InOrder, Turned}
 use Rattle.program.specs.Reading.{Read}
-use Rattle.program.specs.Program.{start, came, Program, begun, turned, input_of, AnswersTheLines, AnswersTheWholeLines}
+use Rattle.program.specs.Program.{came, Program, begun, turned, input_of, AnswersTheLines, AnswersTheWholeLines}
 use Rattle.program.specs.declared.turn.Stream.{Stream}
 use Rattle.program.specs.declared.read.Got.{Got}
 

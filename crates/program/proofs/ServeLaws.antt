@@ -7,7 +7,7 @@ use Rattle.std.specs.declared.option.Option.{Option}
 use Rattle.std.specs.declared.option.Option.TheVariants.{None, Some}
 use Rattle.std.specs.Prelude.{Result, Ok, Err, OnOk}
 use Rattle.std.specs.Result.{is_err}
-use Rattle.std.specs.Io.KnownBytes.{Consumes, Appends, Keeps, IsAtEnd}
+use Rattle.std.specs.Io.KnownBytes.{Consumes, Appends, Keeps}
 use Rattle.keeper.specs.declared.Keeper.{Keeper}
 use Rattle.line.specs.Call.{answer_line}
 use Rattle.lines.specs.Lines.{lf}
@@ -19,7 +19,7 @@ use Rattle.program.specs.Program.{Program, start, begun, turned, came}
 use Rattle.program.specs.Served.{Flow, Served}
 use Rattle.program.specs.declared.turn.Stream.{Stream}
 use Rattle.program.specs.declared.read.Got.{Got}
-use Rattle.program.specs.declared.Ended.TheVariants.{InputEnded, ReadingFailed, WritingFailed, TurnsUsedUp}
+use Rattle.program.specs.declared.Ended.TheVariants.{InputEnded, ReadingFailed, TurnsUsedUp}
 use Rattle.program.proofs.ProgramLaws.{program_answers, program_so_far}
 
 -- ---- known bytes

@@ -1,5 +1,5 @@
 -- The program's loop, turn after turn, and what is claimed of all that it writes.
-use Rattle.std.specs.Prelude.{◌≡◌, false, List, [], ◌∷◌, ◌++◌, map, ℕ, take, drop}
+use Rattle.std.specs.Prelude.{◌≡◌, false, List, [], ◌++◌, map, ℕ, take, drop}
 use Rattle.keeper.specs.State.{fresh}
 use Rattle.keeper.specs.declared.Keeper.{Keeper}
 use Rattle.writing.specs.Puts.{least_output}

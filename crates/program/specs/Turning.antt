@@ -1,5 +1,5 @@
 -- What a turn of the program does to its buffer and its output.
-use Rattle.std.specs.Prelude.{◌≡◌, true, false, List, ◌++◌, ℕ, ◌+◌, ◌≤◌, length, take, drop}
+use Rattle.std.specs.Prelude.{◌≡◌, false, List, ℕ, ◌+◌, ◌≤◌, length, take, drop}
 use Rattle.reader.specs.Reading.{longest_line}
 use Rattle.stream.specs.Stream.{Turn}
 use Rattle.serve.specs.Serving.{keeper_next, answer_to}

@@ -1,5 +1,5 @@
 -- `program::run` keeps what its turns so far have made, and ends with what `Served` says.
-use Rattle.std.proofs.Common.{rules, ◌≡◌, ℕ, ◌+◌, ◌-◌, ◌≤◌, refl, sym, arith}
+use Rattle.std.proofs.Common.{refl, arith}
 use Rattle.program.proofs.ServeLaws.{used_up, begins, failed, goes_on, ends, wrote_all}
 use Rattle.program.proofs.run.Goals as goal
 

@@ -1,5 +1,4 @@
 -- The loop of `run`: its keeper, its places and its buffer are those that reads and turns have made, as `program_answers` supposes.
-use Rattle.std.proofs.Common.{◌≡◌, ℕ, ◌+◌, ◌-◌, ◌*◌, ◌<◌, ◌≤◌, length}
 use Rattle.program.specs.Turning.{InOrder}
 use Rattle.program.proofs.ServeLaws.{SoFar}
 use Rattle.program.proofs.run.Given as goal

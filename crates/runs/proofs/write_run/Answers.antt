@@ -1,7 +1,6 @@
 -- `runs::write_run` is safe: the mark lies within the run, and the answers within the output.
 use Rattle.std.proofs.Common.{arith, sym}
 use lib.Seq.{length-take-le}
-use Rattle.serve.proofs.TurnLaws.{filled_most}
 use Rattle.runs.proofs.MarkLaws.{mark_most}
 use Rattle.runs.proofs.write_run.Goals as goal
 
