@@ -1,4 +1,7 @@
 -- The parts are put in the order of the definition, and are at most 20 + 1 + 43 + 1 bytes.
+use Prim.Native.Nat.{◌^◌, ◌<◌}
+use lib.Signed.{mag}
+use borrow.Author.Rules.{rules}
 use mathlib.Core.Path.{ap}
 use native.Mathlib.Omega.{arith}
 use lib.ListN.{length-append}
@@ -15,8 +18,8 @@ pub returns : goal.returns
 unfolding edges_line
 returns c =
     let x = c.args in
-    let lower = c.struct_told-1.given.0.1 in
-    let upper = c.struct_told-2-1.given.1.0.1 in (
+    let lower : mag x.edges.lower < 2 ^ 63 = search rules in
+    let upper : mag x.edges.upper < 2 ^ 63 = search rules in (
       puts_same
           (one_put c.put_number-at.ensures
           then one_put c.put_bytes-at.ensures

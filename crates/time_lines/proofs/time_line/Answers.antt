@@ -1,4 +1,7 @@
 -- The parts are put in the order of the definition, and are at most 6 + 43 + 1 + 43 + 1 + 10 + 1 + 10 + 1 bytes.
+use Prim.Native.Nat.{◌^◌, ◌<◌}
+use lib.Signed.{mag}
+use borrow.Author.Rules.{rules}
 use mathlib.Core.Path.{ap, ◌∙◌}
 use native.Mathlib.Omega.{arith}
 use mir.Facts.{to_z-of_z}
@@ -29,8 +32,8 @@ pub returns : goal.returns
 unfolding line_of
 returns c k =
     let x = c.args in
-    let lower = c.struct_told-1.given.0.1 in
-    let upper = c.struct_told-2-1.given.1.0.1 in
+    let lower : mag x.edges.lower < 2 ^ 63 = search rules in
+    let upper : mag x.edges.upper < 2 ^ 63 = search rules in
     record {
       puts = puts_same
           (one_put c.put_bytes-at.ensures

@@ -1,4 +1,7 @@
 -- The parts are put in the order of the definition, and are at most 20 + 1 + 43 + 1 bytes.
+use Prim.Native.Nat.{◌^◌, ◌<◌}
+use lib.Signed.{mag}
+use borrow.Author.Rules.{rules}
 use native.Mathlib.Omega.{arith}
 use lib.ListN.{length-append}
 use Rattle.numeral.proofs.Digits.{digits_most}
@@ -11,8 +14,8 @@ pub returns : goal.returns
 unfolding edged_end
 returns c =
     let x = c.args in
-    let lower = c.struct_told-1.given.0.1 in
-    let upper = c.struct_told-2-1.given.1.0.1 in (
+    let lower : mag x.edges.lower < 2 ^ 63 = search rules in
+    let upper : mag x.edges.upper < 2 ^ 63 = search rules in (
       one_put c.put_number-at.ensures then one_put c.put_bytes-at.ensures then (rw (got x.edges.lower lower, got x.edges.upper upper) at c.put_pair-at.ensures.0) then one_put c.put_bytes.ensures,
       simp length-append (omega (arith, digits_most 19 x.n (omega (arith, c.ranges)), pair_most x.edges.lower x.edges.upper lower upper)),
     )

@@ -8,8 +8,8 @@ returns-then-short c = rw c.if-short.true
 
 pub returns-then-not-kept : goal.returns-then-not-kept
 unfolding first
-returns-then-not-kept c = rw (c.if-short.false, c.if-not-kept.true-raw)
+returns-then-not-kept c = rw (c.if-short.false, c.if-not-kept.true)
 
 pub returns : goal.returns
 unfolding first
-returns c = rw (c.if-short.false, c.if-not-kept.false-raw)
+returns c = rw (c.if-short.false, c.if-not-kept.false)
