@@ -1,5 +1,5 @@
 // What one command changes in an image, put into it; every other byte is left as it was. The image of a keeper becomes the image of the
-// changed keeper (`passed-image`, `asked-image`, `ended-image`, `flight-image`), with fewer stores than the whole keeper takes.
+// changed keeper (`passed_image_lem`, `asked_image_lem`, `ended_image_lem`, `flight_image_lem`), with fewer stores than the whole keeper takes.
 #![tactic(auto)]
 
 ghost use Rattle.std.specs.Prelude.{◌≡◌, ◌≤◌, length};

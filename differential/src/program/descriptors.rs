@@ -36,9 +36,10 @@ pub enum Sink {
     NonBlocking {
         held: usize,
     },
-    /// A socket that no one can read any more. A write fails with a signal.
+    /// A socket that no one can read any more. The signal of such a write is as
+    /// the system has it; the program ignores it, so that the write fails.
     Gone,
-    /// The same, but the signal is ignored.
+    /// The same, but the signal is ignored before the program starts.
     GoneUnsignalled,
     Closed,
     Full,

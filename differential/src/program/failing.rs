@@ -1,14 +1,11 @@
 //! Runs in which a read or a write fails.
 
-use std::os::unix::process::ExitStatusExt;
-use std::process::{self, ExitStatus};
+use std::process;
 
 use super::descriptors::{Sink, Source};
 use super::expected;
 use super::run::Ran;
 use crate::test::Test;
-
-const SIGPIPE: i32 = 13;
 
 /// How a run has to end.
 #[derive(Clone, Copy, PartialEq, Eq)]
@@ -17,8 +14,6 @@ pub enum End {
     Quiet,
     ReadingFailed,
     WritingFailed,
-    /// The system ends the program because no one can read what it writes.
-    Signal,
 }
 
 impl End {
@@ -27,14 +22,7 @@ impl End {
         match self {
             End::ReadingFailed => b"boardtime: reading failed\n",
             End::WritingFailed => b"boardtime: writing failed\n",
-            End::Quiet | End::Signal => b"",
-        }
-    }
-
-    fn is(self, status: ExitStatus) -> bool {
-        match self {
-            End::Signal => status.signal() == Some(SIGPIPE),
-            _ => status.success(),
+            End::Quiet => b"",
         }
     }
 }
@@ -72,7 +60,7 @@ fn compare(input: &[u8], sink: Sink, end: End, ran: &Ran) -> Result<(), String> 
             ran.stderr.escape_ascii()
         ));
     }
-    if !end.is(status) {
+    if !status.success() {
         return Err(format!("it ended with {status}"));
     }
     let socket = matches!(sink, Sink::NonBlocking { .. });

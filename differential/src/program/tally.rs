@@ -25,7 +25,6 @@ pub struct ProgramTally {
     flights: u64,
     failed_reads: u64,
     failed_writes: u64,
-    signals: u64,
     /// Runs in which a write could have failed, and none did.
     not_failed: u64,
 }
@@ -43,7 +42,6 @@ impl ProgramTally {
             flights: 0,
             failed_reads: 0,
             failed_writes: 0,
-            signals: 0,
             not_failed: 0,
         }
     }
@@ -75,7 +73,6 @@ impl ProgramTally {
             End::Quiet => &mut self.not_failed,
             End::ReadingFailed => &mut self.failed_reads,
             End::WritingFailed => &mut self.failed_writes,
-            End::Signal => &mut self.signals,
         } += 1;
     }
 
@@ -98,9 +95,8 @@ impl ProgramTally {
         print_numbers("lines with `_` by number", &self.spelled);
         println!("  accepted flights: {}", self.flights);
         println!(
-            "  {} runs with a failed read, {} with a failed write, {} ended by a signal, \
-             {} that could have one and had none",
-            self.failed_reads, self.failed_writes, self.signals, self.not_failed
+            "  {} runs with a failed read, {} with a failed write, {} that could have one and had none",
+            self.failed_reads, self.failed_writes, self.not_failed
         );
     }
 

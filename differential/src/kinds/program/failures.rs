@@ -128,10 +128,7 @@ fn unwritable_outputs(test: &mut Test) {
     let long = [&[b'x'; 70_000][..], b"\n"].concat();
     let inputs: [&[u8]; 6] = [b"\n", b"(read)\n", b"(read)\n(rea", &many, &and_one, &long];
     for &sink in FAILING.iter().chain([&Sink::Gone]) {
-        let end = match sink {
-            Sink::Gone => End::Signal,
-            _ => End::WritingFailed,
-        };
+        let end = End::WritingFailed;
         for input in inputs {
             test.run_failing(input, Source::File, sink, end);
             // After the failure the program does not wait for more lines.
