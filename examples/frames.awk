@@ -2,7 +2,7 @@
 # function that it exports the most stack that a call can take, whatever its
 # arguments: its own frame and the deepest frames below it, return addresses
 # and the bytes used below the stack pointer among them. Of a function that is
-# not in the archive (memcpy) the return address alone is counted. What it does
+# not in the archive (memcpy, memset) the return address alone is counted. What it does
 # not understand ends it.
 
 function fail(why) {

@@ -23,7 +23,7 @@
  * the waiting peers or a window. A refused one leaves every byte as it was.
  * Beside these there are calls without an image, which write a command as its
  * line, or convert a date or a moment. The library holds nothing between calls,
- * allocates nothing and calls nothing but memcpy.
+ * allocates nothing and calls nothing but memcpy and memset.
  *
  * What the caller owes:
  *   - every pointer is valid for the length that is passed with it, and is not
