@@ -1,5 +1,4 @@
 -- Past the test, one store after the other.
--- past the test the peer has places in the image
 use mathlib.Core.Path.{◌≡◌, sym, ◌∙◌}
 use mathlib.Core.Bool.{true}
 use native.Mathlib.Omega.{arith}

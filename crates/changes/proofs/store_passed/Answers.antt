@@ -1,5 +1,4 @@
 -- Past the test, one store after the other.
--- past the test the buffer has the length of an image
 use mathlib.Core.Path.{◌≡◌, sym, ◌∙◌}
 use native.Mathlib.Omega.{arith}
 use borrow.Author.Tests.{eq-eqb, eqb-true}

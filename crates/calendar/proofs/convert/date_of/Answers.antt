@@ -1,8 +1,9 @@
 -- A moment that passes both tests is of the two hundred years, so that its second, counted from
 -- 1900, is one of theirs.
 use mathlib.Core.Path.{◌≡◌, ◌∙◌}
-use mathlib.Core.Bool.{true}
-use lib.IntN.{ℤ, pos, ◌+ℤ◌}
+use mathlib.Core.Bool.{true, false}
+use lib.IntN.{ℤ, pos, negsuc, ◌+ℤ◌}
+use lib.Signed.{lt_z}
 use mir.Syntax.{w64}
 use mir.Val.{SFits, of_z, to_z}
 use mir.Facts.{to_z-of_z}
@@ -22,6 +23,13 @@ returns-then-moment-gt-LAST_MOMENT c =
     let test = simp (to_z-of_z c.ranges.moment) at c.if-moment-gt-LAST_MOMENT.true in
     rw c.no_date-then-moment-gt-LAST_MOMENT.ensures (none_is (years_after c.args.moment (omega (ints, test))))
 
+-- behind both tests the moment is of those years
+between : (m : ℤ) → SFits w64 m
+    → lt_z (to_z w64 (of_z w64 m)) (negsuc 3155673599999999999) ≡ false
+    → lt_z (pos 3155759999999999999) (to_z w64 (of_z w64 m)) ≡ false
+    → in_years m ≡ true
+between m f from to = years_made m (omega (ints, simp (to_z-of_z f) at from)) (omega (ints, simp (to_z-of_z f) at to))
+
 -- the second that the code counts from 2000, and then from 1900
 module _ (m z : ℤ) (f : SFits w64 m) (e : in_years m ≡ true) (q : z ≡ floor_second (to_z w64 (of_z w64 m))) where
   second-read : to_z w64 (of_z w64 z) ≡ floor_second m
@@ -35,48 +43,26 @@ module _ (m z : ℤ) (f : SFits w64 m) (e : in_years m ≡ true) (q : z ≡ floo
 
 pub overflow_add-second : goal.overflow_add-second
 overflow_add-second c =
-    let there : in_years c.args.moment ≡ true =
-    let from = simp (to_z-of_z c.ranges.moment) at c.if-moment-lt-FIRST_MOMENT.false in
-    let to = simp (to_z-of_z c.ranges.moment) at c.if-moment-gt-LAST_MOMENT.false in
-    years_made c.args.moment (omega (ints, from)) (omega (ints, to))
-    in
-    from-1900 c.args.moment c.second_of.result c.ranges.moment (there) c.second_of.ensures
+    let there = between c.args.moment c.ranges.moment c.if-moment-lt-FIRST_MOMENT.false c.if-moment-gt-LAST_MOMENT.false in
+    from-1900 c.args.moment c.second_of.result c.ranges.moment there c.second_of.ensures
 
 pub overflow_cast-second : goal.overflow_cast-second
 overflow_cast-second c =
-    let there : in_years c.args.moment ≡ true =
-    let from = simp (to_z-of_z c.ranges.moment) at c.if-moment-lt-FIRST_MOMENT.false in
-    let to = simp (to_z-of_z c.ranges.moment) at c.if-moment-gt-LAST_MOMENT.false in
-    years_made c.args.moment (omega (ints, from)) (omega (ints, to))
-    in
-    let counted-at : to_z w64 (of_z w64 (to_z w64 (of_z w64 c.second_of.result) +ℤ pos 3155673600)) ≡ pos (second_of c.args.moment) =
-    counted c.args.moment c.second_of.result c.ranges.moment (there) c.second_of.ensures
-    in
-    let h = second_below c.args.moment (there) in
-    rw (counted-at) (tt, omega ints)
+    let there = between c.args.moment c.ranges.moment c.if-moment-lt-FIRST_MOMENT.false c.if-moment-gt-LAST_MOMENT.false in
+    let at-second = counted c.args.moment c.second_of.result c.ranges.moment there c.second_of.ensures in
+    let h = second_below c.args.moment there in
+    rw at-second (tt, omega ints)
 
 pub date_at-requires : goal.date_at-requires
 date_at-requires c =
-    let there : in_years c.args.moment ≡ true =
-    let from = simp (to_z-of_z c.ranges.moment) at c.if-moment-lt-FIRST_MOMENT.false in
-    let to = simp (to_z-of_z c.ranges.moment) at c.if-moment-gt-LAST_MOMENT.false in
-    years_made c.args.moment (omega (ints, from)) (omega (ints, to))
-    in
-    let counted-at : to_z w64 (of_z w64 (to_z w64 (of_z w64 c.second_of.result) +ℤ pos 3155673600)) ≡ pos (second_of c.args.moment) =
-    counted c.args.moment c.second_of.result c.ranges.moment (there) c.second_of.ensures
-    in
-    let h = second_below c.args.moment (there) in
-    rw (counted-at, years_end) h
+    let there = between c.args.moment c.ranges.moment c.if-moment-lt-FIRST_MOMENT.false c.if-moment-gt-LAST_MOMENT.false in
+    let at-second = counted c.args.moment c.second_of.result c.ranges.moment there c.second_of.ensures in
+    let h = second_below c.args.moment there in
+    rw (at-second, years_end) h
 
 pub returns : goal.returns
 returns c =
-    let there : in_years c.args.moment ≡ true =
-    let from = simp (to_z-of_z c.ranges.moment) at c.if-moment-lt-FIRST_MOMENT.false in
-    let to = simp (to_z-of_z c.ranges.moment) at c.if-moment-gt-LAST_MOMENT.false in
-    years_made c.args.moment (omega (ints, from)) (omega (ints, to))
-    in
-    let counted-at : to_z w64 (of_z w64 (to_z w64 (of_z w64 c.second_of.result) +ℤ pos 3155673600)) ≡ pos (second_of c.args.moment) =
-    counted c.args.moment c.second_of.result c.ranges.moment (there) c.second_of.ensures
-    in
+    let there = between c.args.moment c.ranges.moment c.if-moment-lt-FIRST_MOMENT.false c.if-moment-gt-LAST_MOMENT.false in
+    let at-second = counted c.args.moment c.second_of.result c.ranges.moment there c.second_of.ensures in
     let date = c.date_at.ensures in
-    one_is (there) date.0 (date.1 ∙ rw (counted-at))
+    one_is there date.0 (date.1 ∙ rw at-second)

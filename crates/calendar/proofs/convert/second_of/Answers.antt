@@ -1,5 +1,4 @@
 -- A negative moment is -(m + 1); -1 less it is m, whose whole seconds are counted back from -1.
--- the steps of the code, of a negative z
 use mathlib.Core.Path.{◌≡◌, ◌∙◌}
 use Prim.Native.Nat.{ℕ, ◌<◌, ◌/◌, ◌^◌}
 use native.Mathlib.Omega.{arith}
@@ -13,6 +12,7 @@ use Rattle.calendar.specs.Conversion.{floor_second}
 use Rattle.calendar.proofs.MomentLaws.{below_zero, from_zero}
 use Rattle.calendar.proofs.convert.second_of.Goals as goal
 
+-- the steps of the code, of a negative z
 module _ (z : ℤ) (f : SFits w64 z) (m : ℕ) (e : z ≡ negsuc m) (h : m < 2 ^ 63) where
   back_is : negsuc 0 -ℤ to_z w64 (of_z w64 z) ≡ pos m
   back_is = rw (to_z-of_z f, e) (omega (ints, dif (negsuc 0) (negsuc m)))
@@ -41,34 +41,22 @@ module _ (z : ℤ) (f : SFits w64 z) (m : ℕ) (e : z ≡ negsuc m) (h : m < 2 ^
 
 pub overflow_sub-result : goal.overflow_sub-result
 overflow_sub-result c =
-    let negative : (m : ℕ) × (c.args.moment ≡ negsuc m) × (m < 2 ^ 63) =
-    below_zero c.args.moment c.ranges.moment c.if-moment-lt0.true
-    in
-    let (m, e, h) = negative in
+    let (m, e, h) = below_zero c.args.moment c.ranges.moment c.if-moment-lt0.true in
     rw (to_z-of_z c.ranges.moment, e) (omega (ints, dif (negsuc 0) (negsuc m)))
 
 pub nonzero_div-result : goal.nonzero_div-result
 nonzero_div-result c =
-    let negative : (m : ℕ) × (c.args.moment ≡ negsuc m) × (m < 2 ^ 63) =
-    below_zero c.args.moment c.ranges.moment c.if-moment-lt0.true
-    in
-    let (m, e, h) = negative in
+    let (m, e, h) = below_zero c.args.moment c.ranges.moment c.if-moment-lt0.true in
     (omega arith, whole-fits c.args.moment c.ranges.moment m e h)
 
 pub overflow_sub-result-then-moment-lt0 : goal.overflow_sub-result-then-moment-lt0
 overflow_sub-result-then-moment-lt0 c =
-    let negative : (m : ℕ) × (c.args.moment ≡ negsuc m) × (m < 2 ^ 63) =
-    below_zero c.args.moment c.ranges.moment c.if-moment-lt0.true
-    in
-    let (m, e, h) = negative in
+    let (m, e, h) = below_zero c.args.moment c.ranges.moment c.if-moment-lt0.true in
     on_fits c.args.moment c.ranges.moment m e h
 
 pub returns-then-moment-lt0 : goal.returns-then-moment-lt0
 returns-then-moment-lt0 c =
-    let negative : (m : ℕ) × (c.args.moment ≡ negsuc m) × (m < 2 ^ 63) =
-    below_zero c.args.moment c.ranges.moment c.if-moment-lt0.true
-    in
-    let (m, e, h) = negative in
+    let (m, e, h) = below_zero c.args.moment c.ranges.moment c.if-moment-lt0.true in
     let z = c.args.moment in
     let f = c.ranges.moment in
     to_z-of_z (on_fits z f m e h) ∙ on-is z f m e h ∙ floor-is z f m e h

@@ -1,5 +1,4 @@
 -- The tests are the form's limits, in the definition's order.
--- the three limits, each as a bound
 use native.Mathlib.Omega.{arith}
 use mathlib.Core.Path.{◌≡◌, sym, ◌∙◌}
 use mathlib.Core.Bool.{true, ◌&&◌}
@@ -12,6 +11,7 @@ use Rattle.command.specs.Limits.{board_within}
 use Rattle.command.proofs.LimitLaws.{limited_keeps, limited_breaks, board_bound}
 use Rattle.command.proofs.accept.accept_flight.Goals as goal
 
+-- the three limits, each as a bound
 bounds : (peer out back : ℕ) → board_within peer && flight_within out && flight_within back ≡ true → (peer ≤ 15) × (out ≤ most_flight) × (back ≤ most_flight)
 bounds peer out back e =
     let (front, b) = both (board_within peer && flight_within out) (flight_within back) e in

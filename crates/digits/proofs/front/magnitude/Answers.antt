@@ -36,34 +36,22 @@ module _ (z : ℤ) (f : SFits w64 z) (m : ℕ) (e : z ≡ negsuc m) (h : m < 2 ^
 
 pub overflow_add-result : goal.overflow_add-result
 overflow_add-result c =
-    let negative : (m : ℕ) × (c.args.z ≡ negsuc m) × (m < 2 ^ 63) =
-    below_zero c.args.z c.ranges.z c.if-z-lt0.true
-    in
-    let (m, e, h) = negative in
+    let (m, e, h) = below_zero c.args.z c.ranges.z c.if-z-lt0.true in
     sum_fits c.args.z c.ranges.z m e h
 
 pub overflow_sub-result : goal.overflow_sub-result
 overflow_sub-result c =
-    let negative : (m : ℕ) × (c.args.z ≡ negsuc m) × (m < 2 ^ 63) =
-    below_zero c.args.z c.ranges.z c.if-z-lt0.true
-    in
-    let (m, e, h) = negative in
+    let (m, e, h) = below_zero c.args.z c.ranges.z c.if-z-lt0.true in
     back_fits c.args.z c.ranges.z m e h
 
 pub overflow_cast-result : goal.overflow_cast-result
 overflow_cast-result c =
-    let negative : (m : ℕ) × (c.args.z ≡ negsuc m) × (m < 2 ^ 63) =
-    below_zero c.args.z c.ranges.z c.if-z-lt0.true
-    in
-    let (m, e, h) = negative in
+    let (m, e, h) = below_zero c.args.z c.ranges.z c.if-z-lt0.true in
     rw (back_read c.args.z c.ranges.z m e h) (tt, omega arith)
 
 pub overflow_add-result-then-z-lt0 : goal.overflow_add-result-then-z-lt0
 overflow_add-result-then-z-lt0 c =
-    let negative : (m : ℕ) × (c.args.z ≡ negsuc m) × (m < 2 ^ 63) =
-    below_zero c.args.z c.ranges.z c.if-z-lt0.true
-    in
-    let (m, e, h) = negative in
+    let (m, e, h) = below_zero c.args.z c.ranges.z c.if-z-lt0.true in
     rw (back_read c.args.z c.ranges.z m e h) (omega arith)
 
 pub overflow_cast-result-else-z-lt0 : goal.overflow_cast-result-else-z-lt0
@@ -73,8 +61,5 @@ overflow_cast-result-else-z-lt0 c =
 
 pub returns-then-z-lt0 : goal.returns-then-z-lt0
 returns-then-z-lt0 c =
-    let negative : (m : ℕ) × (c.args.z ≡ negsuc m) × (m < 2 ^ 63) =
-    below_zero c.args.z c.ranges.z c.if-z-lt0.true
-    in
-    let (m, e, h) = negative in
+    let (m, e, h) = below_zero c.args.z c.ranges.z c.if-z-lt0.true in
     rw (back_read c.args.z c.ranges.z m e h) (omega (arith, ap nat_abs e))

@@ -1,5 +1,4 @@
 -- A negative z is -(m + 1) for an m below 2 ^ 63, and its bits are m below 2 ^ 64 - 1.
--- what the test says of z in the arm of a negative number
 use mathlib.Core.Path.{◌≡◌, ap}
 use Prim.Native.Nat.{ℕ, ◌<◌, ◌^◌}
 use native.Mathlib.Omega.{arith}
@@ -19,34 +18,22 @@ read_back c m e h =
 
 pub overflow_sub-result : goal.overflow_sub-result
 overflow_sub-result c =
-    let negative : (m : ℕ) × (c.args.z ≡ negsuc m) × (m < 2 ^ 63) =
-    below_zero c.args.z c.ranges.z c.if-z-lt0.true
-    in
-    let (m, e, h) = negative in
+    let (m, e, h) = below_zero c.args.z c.ranges.z c.if-z-lt0.true in
     rw (to_z-of_z c.ranges.z, e, back_up m) (record { sfits = h })
 
 pub overflow_cast-result : goal.overflow_cast-result
 overflow_cast-result c =
-    let negative : (m : ℕ) × (c.args.z ≡ negsuc m) × (m < 2 ^ 63) =
-    below_zero c.args.z c.ranges.z c.if-z-lt0.true
-    in
-    let (m, e, h) = negative in
+    let (m, e, h) = below_zero c.args.z c.ranges.z c.if-z-lt0.true in
     rw (read_back c m e h) (tt, omega arith)
 
 pub overflow_sub-result-then-z-lt0 : goal.overflow_sub-result-then-z-lt0
 overflow_sub-result-then-z-lt0 c =
-    let negative : (m : ℕ) × (c.args.z ≡ negsuc m) × (m < 2 ^ 63) =
-    below_zero c.args.z c.ranges.z c.if-z-lt0.true
-    in
-    let (m, e, h) = negative in
+    let (m, e, h) = below_zero c.args.z c.ranges.z c.if-z-lt0.true in
     rw (read_back c m e h) (omega arith)
 
 pub returns-then-z-lt0 : goal.returns-then-z-lt0
 returns-then-z-lt0 c =
-    let negative : (m : ℕ) × (c.args.z ≡ negsuc m) × (m < 2 ^ 63) =
-    below_zero c.args.z c.ranges.z c.if-z-lt0.true
-    in
-    let (m, e, h) = negative in
+    let (m, e, h) = below_zero c.args.z c.ranges.z c.if-z-lt0.true in
     rw (read_back c m e h) (omega (arith, ap (of_z w64) e))
 
 pub overflow_cast-result-2 : goal.overflow_cast-result-2

@@ -9,7 +9,7 @@ use Rattle.command.specs.declared.Command.TheVariants as C
 use Rattle.keeper.specs.State.{state_of}
 use Rattle.keeper.specs.Refusals.{reply_bracket, reply_verdict}
 use Rattle.keeper.specs.Apply.{replied, accepted}
-use Rattle.keeper.proofs.CallLaws.{Found, apply_refused, apply_accepted, apply_number_refused, reply_holds, reply_past, reply_found}
+use Rattle.keeper.proofs.CallLaws.{apply_refused, apply_accepted, apply_number_refused, reply_holds, reply_past, reply_found}
 use Rattle.keeper.proofs.StartedLaws.{started_read, sent_by}
 use Rattle.keeper.proofs.Keeper.reply.Goals as goal
 
@@ -24,65 +24,47 @@ returns-then-number-ne0 c =
 
 pub bounds-sent_at-peer : goal.bounds-sent_at-peer
 bounds-sent_at-peer c =
-    let found : Found c.args.self c.args.peer c.args.edges =
     let x = c.args in
-    reply_found x.self x.peer x.tag x.edges (sym c.wait_refusal-number.ensures ∙ c.if-number-ne0.false)
-    in
-    omega (arith, (found).small)
+    let f = reply_found x.self x.peer x.tag x.edges (sym c.wait_refusal-number.ensures ∙ c.if-number-ne0.false) in
+    omega (arith, f.small)
 
 pub overflow_sub-w : goal.overflow_sub-w
 overflow_sub-w c =
-    let found : Found c.args.self c.args.peer c.args.edges =
     let x = c.args in
-    reply_found x.self x.peer x.tag x.edges (sym c.wait_refusal-number.ensures ∙ c.if-number-ne0.false)
-    in
-    let x = c.args in
-    let f = found in
+    let f = reply_found x.self x.peer x.tag x.edges (sym c.wait_refusal-number.ensures ∙ c.if-number-ne0.false) in
     sent_by x.self x.peer (started_read x.self f.started) f.small f.waits
 
 pub overflow_cast-w-2 : goal.overflow_cast-w-2
 unfolding state_of
 overflow_cast-w-2 c =
-    let found : Found c.args.self c.args.peer c.args.edges =
     let x = c.args in
-    reply_found x.self x.peer x.tag x.edges (sym c.wait_refusal-number.ensures ∙ c.if-number-ne0.false)
-    in
-    omega (arith, (found).soon)
+    let f = reply_found x.self x.peer x.tag x.edges (sym c.wait_refusal-number.ensures ∙ c.if-number-ne0.false) in
+    omega (arith, f.soon)
 
 pub bounds-out-peer : goal.bounds-out-peer
 bounds-out-peer c =
-    let found : Found c.args.self c.args.peer c.args.edges =
     let x = c.args in
-    reply_found x.self x.peer x.tag x.edges (sym c.wait_refusal-number.ensures ∙ c.if-number-ne0.false)
-    in
-    omega (arith, (found).small)
+    let f = reply_found x.self x.peer x.tag x.edges (sym c.wait_refusal-number.ensures ∙ c.if-number-ne0.false) in
+    omega (arith, f.small)
 
 pub bounds-back-peer : goal.bounds-back-peer
 bounds-back-peer c =
-    let found : Found c.args.self c.args.peer c.args.edges =
     let x = c.args in
-    reply_found x.self x.peer x.tag x.edges (sym c.wait_refusal-number.ensures ∙ c.if-number-ne0.false)
-    in
-    omega (arith, (found).small)
+    let f = reply_found x.self x.peer x.tag x.edges (sym c.wait_refusal-number.ensures ∙ c.if-number-ne0.false) in
+    omega (arith, f.small)
 
 pub bracket_of-bracket-requires : goal.bracket_of-bracket-requires
 unfolding state_of
 bracket_of-bracket-requires c =
-    let found : Found c.args.self c.args.peer c.args.edges =
     let x = c.args in
-    reply_found x.self x.peer x.tag x.edges (sym c.wait_refusal-number.ensures ∙ c.if-number-ne0.false)
-    in
-    let f = found in record { w_le_longest_wait = f.soon; reply_value = f.within }
+    let f = reply_found x.self x.peer x.tag x.edges (sym c.wait_refusal-number.ensures ∙ c.if-number-ne0.false) in
+    record { w_le_longest_wait = f.soon; reply_value = f.within }
 
 pub judge-verdict-requires : goal.judge-verdict-requires
 unfolding state_of
 judge-verdict-requires c =
-    let found : Found c.args.self c.args.peer c.args.edges =
     let x = c.args in
-    reply_found x.self x.peer x.tag x.edges (sym c.wait_refusal-number.ensures ∙ c.if-number-ne0.false)
-    in
-    let x = c.args in
-    let f = found in
+    let f = reply_found x.self x.peer x.tag x.edges (sym c.wait_refusal-number.ensures ∙ c.if-number-ne0.false) in
     let o = c.outward_span-span in
     rw (got o.result o.type_inv, o.ensures) (record { span = wait_span _ x.self.claim f.soon (omega arith); reply_value = f.within; edges_value = (started_read x.self f.started).edges })
 
@@ -95,17 +77,13 @@ returns-then-leaves_the_range c =
     in
     let x = c.args in
     let past = reply_past (state_of x.self) x.peer x.tag x.edges (sym c.wait_refusal-number.ensures ∙ c.if-number-ne0.false) in
-    let leaves-it = ap leaves (sym (verdict-is)) ∙ sym c.leaves_the_range.ensures ∙ c.if-leaves_the_range.true in
+    let leaves-it = ap leaves (sym verdict-is) ∙ sym c.leaves_the_range.ensures ∙ c.if-leaves_the_range.true in
     c.refused-then-leaves_the_range.ensures ∙ sym (apply_refused x.self (C.Reply x.peer x.tag x.edges) 5 refl (past ∙ rw leaves-it))
 
 pub replied_with-requires : goal.replied_with-requires
 replied_with-requires c =
-    let found : Found c.args.self c.args.peer c.args.edges =
     let x = c.args in
-    reply_found x.self x.peer x.tag x.edges (sym c.wait_refusal-number.ensures ∙ c.if-number-ne0.false)
-    in
-    let x = c.args in
-    let f = found in
+    let f = reply_found x.self x.peer x.tag x.edges (sym c.wait_refusal-number.ensures ∙ c.if-number-ne0.false) in
     let s = started_read x.self f.started in
     record { peer_bound = f.small; peer_value = f.waits; conflicts_le_most_requests = omega (arith, s.count, s.requests) }
 
@@ -118,7 +96,7 @@ returns c =
     in
     let x = c.args in
     let past = reply_past (state_of x.self) x.peer x.tag x.edges (sym c.wait_refusal-number.ensures ∙ c.if-number-ne0.false) in
-    let stays = ap leaves (sym (verdict-is)) ∙ sym c.leaves_the_range.ensures ∙ c.if-leaves_the_range.false in
+    let stays = ap leaves (sym verdict-is) ∙ sym c.leaves_the_range.ensures ∙ c.if-leaves_the_range.false in
     c.replied_with.ensures
-    ∙ ap (replied x.self x.peer) (verdict-is)
+    ∙ ap (replied x.self x.peer) verdict-is
     ∙ sym (apply_accepted x.self (C.Reply x.peer x.tag x.edges) (past ∙ rw stays))

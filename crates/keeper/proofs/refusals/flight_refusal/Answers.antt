@@ -1,14 +1,28 @@
 -- The tests are the causes, in their order.
-use mathlib.Core.Path.{◌≡◌}
+use mathlib.Core.Path.{◌≡◌, refl, sym, ◌∙◌}
+use mathlib.Core.Bool.{true, ◌&&◌}
 use mathlib.Core.List.{[], ◌∷◌}
-use Rattle.command.specs.Causes.{cause}
-use mathlib.Core.Path.{refl, sym, ◌∙◌}
-use Rattle.command.specs.Causes.{first}
+use Prim.Native.Nat.{ℕ}
+use Rattle.command.specs.Causes.{cause, first}
 use Rattle.command.specs.declared.Command.TheVariants as C
+use Rattle.command.specs.Limits.{board_within}
+use Rattle.flights.specs.Flights.{flight_within}
 use Rattle.keeper.specs.State.{state_of}
-use Rattle.keeper.specs.Refusals.{refusal, causes, keeper_causes}
+use Rattle.keeper.specs.Refusals.{refusal, causes, peer_causes, keeper_causes}
+use Rattle.keeper.specs.declared.Keeper.{Keeper}
 use Rattle.keeper.proofs.CallLaws.{own_holds, own_past, peer_holds, peer_past}
 use Rattle.keeper.proofs.refusals.flight_refusal.Goals as goal
+
+-- Past the command's own cause.
+module _ (k : Keeper) (peer out back : ℕ) (kept : (board_within peer && flight_within out && flight_within back) ≡ true) where
+  past_own : refusal (state_of k) (C.Flight peer out back) ≡ first (keeper_causes (state_of k) (C.Flight peer out back))
+  unfolding refusal causes
+  past_own = own_past _ (C.Flight peer out back) refl kept
+
+  -- past 3 and 4 too
+  past_peer : first (peer_causes (state_of k) peer) ≡ 0 → refusal (state_of k) (C.Flight peer out back) ≡ first (cause 6 ((state_of k).waits peer) ∷ [])
+  unfolding keeper_causes
+  past_peer none = past_own ∙ peer_past (state_of k) peer _ none
 
 pub returns-then-not-flight_within : goal.returns-then-not-flight_within
 unfolding refusal causes
@@ -17,35 +31,25 @@ returns-then-not-flight_within c =
     sym (own_holds _ (C.Flight x.peer x.out x.back) (sym c.flight_within.ensures ∙ c.if-not-flight_within.true))
 
 pub returns-then-number-ne0 : goal.returns-then-number-ne0
-unfolding keeper_causes refusal causes
+unfolding keeper_causes
 returns-then-number-ne0 c =
-    let past_own : refusal (state_of c.args.keeper) (C.Flight c.args.peer c.args.out c.args.back) ≡ first (keeper_causes (state_of c.args.keeper) (C.Flight c.args.peer c.args.out c.args.back)) =
-    own_past _ (C.Flight c.args.peer c.args.out c.args.back) refl (sym c.flight_within.ensures ∙ c.if-not-flight_within.false)
-    in
     let x = c.args in
+    let kept = sym c.flight_within.ensures ∙ c.if-not-flight_within.false in
     let p = c.peer_refusal-number.ensures in
-    sym (past_own ∙ peer_holds (state_of x.keeper) x.peer _ (λ e. c.if-number-ne0.true (p ∙ e)) ∙ sym p)
+    sym (past_own x.keeper x.peer x.out x.back kept ∙ peer_holds (state_of x.keeper) x.peer _ (λ e. c.if-number-ne0.true (p ∙ e)) ∙ sym p)
 
 pub returns-then-bit_of : goal.returns-then-bit_of
-unfolding first state_of refusal causes keeper_causes
+unfolding first state_of
 returns-then-bit_of c =
-    let past_own : refusal (state_of c.args.keeper) (C.Flight c.args.peer c.args.out c.args.back) ≡ first (keeper_causes (state_of c.args.keeper) (C.Flight c.args.peer c.args.out c.args.back)) =
-    own_past _ (C.Flight c.args.peer c.args.out c.args.back) refl (sym c.flight_within.ensures ∙ c.if-not-flight_within.false)
-    in
-    let past-peer : refusal (state_of c.args.keeper) (C.Flight c.args.peer c.args.out c.args.back) ≡ first (cause 6 ((state_of c.args.keeper).waits c.args.peer) ∷ []) =
     let x = c.args in
-    past_own ∙ peer_past (state_of x.keeper) x.peer (cause 6 ((state_of c.args.keeper).waits c.args.peer) ∷ []) (sym c.peer_refusal-number.ensures ∙ c.if-number-ne0.false)
-    in
-    sym (past-peer ∙ rw (sym c.bit_of.ensures ∙ c.if-bit_of.true))
+    let kept = sym c.flight_within.ensures ∙ c.if-not-flight_within.false in
+    let none = sym c.peer_refusal-number.ensures ∙ c.if-number-ne0.false in
+    sym (past_peer x.keeper x.peer x.out x.back kept none ∙ rw (sym c.bit_of.ensures ∙ c.if-bit_of.true))
 
 pub returns-else-bit_of : goal.returns-else-bit_of
-unfolding first state_of refusal causes keeper_causes
+unfolding first state_of
 returns-else-bit_of c =
-    let past_own : refusal (state_of c.args.keeper) (C.Flight c.args.peer c.args.out c.args.back) ≡ first (keeper_causes (state_of c.args.keeper) (C.Flight c.args.peer c.args.out c.args.back)) =
-    own_past _ (C.Flight c.args.peer c.args.out c.args.back) refl (sym c.flight_within.ensures ∙ c.if-not-flight_within.false)
-    in
-    let past-peer : refusal (state_of c.args.keeper) (C.Flight c.args.peer c.args.out c.args.back) ≡ first (cause 6 ((state_of c.args.keeper).waits c.args.peer) ∷ []) =
     let x = c.args in
-    past_own ∙ peer_past (state_of x.keeper) x.peer (cause 6 ((state_of c.args.keeper).waits c.args.peer) ∷ []) (sym c.peer_refusal-number.ensures ∙ c.if-number-ne0.false)
-    in
-    sym (past-peer ∙ rw (sym c.bit_of.ensures ∙ c.if-bit_of.false))
+    let kept = sym c.flight_within.ensures ∙ c.if-not-flight_within.false in
+    let none = sym c.peer_refusal-number.ensures ∙ c.if-number-ne0.false in
+    sym (past_peer x.keeper x.peer x.out x.back kept none ∙ rw (sym c.bit_of.ensures ∙ c.if-bit_of.false))

@@ -4,11 +4,12 @@ use borrow.Author.Tests.{not-false, eq-eqb, ne_eqb, lt-ltb, le-ltb}
 use mathlib.Core.Path.{◌≡◌, refl, sym, ◌∙◌}
 use mathlib.Core.Bool.{true, not, ◌&&◌}
 use mathlib.Core.List.{[], ◌∷◌, ◌++◌}
-use Prim.Native.Nat.{◌≤◌}
+use Prim.Native.Nat.{ℕ, ◌≤◌}
 use native.Mathlib.Omega.{arith}
 use lib.Dec.{eqb, ltb}
 use Rattle.bits.proofs.Tests.{both}
 use Rattle.moment.specs.Intervals.{edges_within}
+use Rattle.moment.specs.declared.Interval.{Interval}
 use Rattle.rules.specs.Rules.{longest_wait}
 use Rattle.command.specs.Limits.{board_within, tag_within}
 use Rattle.command.specs.Causes.{cause, first, own_causes}
@@ -17,9 +18,29 @@ use Rattle.command.proofs.LimitLaws.{board_bound}
 use Rattle.command.proofs.CauseLaws.{numbered, first_none}
 use Rattle.keeper.specs.State.{state_of, counts_as_started}
 use Rattle.keeper.specs.Refusals.{waited, peer_causes, wait_causes}
+use Rattle.keeper.specs.declared.Keeper.{Keeper}
 use Rattle.keeper.proofs.CallLaws.{own_holds, own_past, peer_holds, peer_past}
 use Rattle.keeper.proofs.StartedLaws.{started_read, sent_by}
 use Rattle.keeper.proofs.refusals.wait_refusal.Goals as goal
+
+-- Past the command's own cause: its numbers are within their limits.
+module _ (k : Keeper) (peer tag : ℕ) (edges : Interval) (kept : (board_within peer && tag_within tag && edges_within edges) ≡ true) where
+  small : peer ≤ 15
+  small = board_bound _ (both (board_within peer) (tag_within tag) (both (board_within peer && tag_within tag) (edges_within edges) kept).0).0
+
+  past_own : first (own_causes (C.Reply peer tag edges) ++ wait_causes (state_of k) peer tag) ≡ first (wait_causes (state_of k) peer tag)
+  past_own = own_past _ (C.Reply peer tag edges) refl kept
+
+  -- past 3 and 4 too
+  past_peer : first (peer_causes (state_of k) peer) ≡ 0
+      → first (own_causes (C.Reply peer tag edges) ++ wait_causes (state_of k) peer tag)
+      ≡ first (cause 7 (not ((state_of k).waits peer && eqb tag ((state_of k).tag peer))) ∷ cause 8 (ltb longest_wait (waited (state_of k) peer)) ∷ [])
+  past_peer none = past_own ∙ peer_past (state_of k) peer _ none
+
+-- then the keeper counts as started
+started : (k : Keeper) (peer : ℕ) → first (peer_causes (state_of k) peer) ≡ 0 → counts_as_started k ≡ true
+unfolding numbered state_of
+started k peer none = not-false _ (first_none (peer_causes (state_of k) peer) refl none).0
 
 pub returns-then-not-reply_within : goal.returns-then-not-reply_within
 returns-then-not-reply_within c =
@@ -28,116 +49,55 @@ returns-then-not-reply_within c =
 
 pub returns-then-number-ne0 : goal.returns-then-number-ne0
 returns-then-number-ne0 c =
-    let kept : (board_within c.args.peer && tag_within c.args.tag && edges_within c.args.edges) ≡ true =
-    sym c.reply_within.ensures ∙ c.if-not-reply_within.false
-    in
-    let past_own : first (own_causes (C.Reply c.args.peer c.args.tag c.args.edges) ++ wait_causes (state_of c.args.keeper) c.args.peer c.args.tag) ≡ first (wait_causes (state_of c.args.keeper) c.args.peer c.args.tag) =
     let x = c.args in
-    own_past _ (C.Reply x.peer x.tag x.edges) refl (kept)
-    in
-    let x = c.args in
+    let kept = sym c.reply_within.ensures ∙ c.if-not-reply_within.false in
     let p = c.peer_refusal-number.ensures in
-    sym (past_own ∙ peer_holds (state_of x.keeper) x.peer _ (λ e. c.if-number-ne0.true (p ∙ e)) ∙ sym p)
+    sym (past_own x.keeper x.peer x.tag x.edges kept ∙ peer_holds (state_of x.keeper) x.peer _ (λ e. c.if-number-ne0.true (p ∙ e)) ∙ sym p)
 
 pub returns-then-not-bit_of : goal.returns-then-not-bit_of
 unfolding first state_of
 returns-then-not-bit_of c =
-    let kept : (board_within c.args.peer && tag_within c.args.tag && edges_within c.args.edges) ≡ true =
-    sym c.reply_within.ensures ∙ c.if-not-reply_within.false
-    in
-    let past_own : first (own_causes (C.Reply c.args.peer c.args.tag c.args.edges) ++ wait_causes (state_of c.args.keeper) c.args.peer c.args.tag) ≡ first (wait_causes (state_of c.args.keeper) c.args.peer c.args.tag) =
     let x = c.args in
-    own_past _ (C.Reply x.peer x.tag x.edges) refl (kept)
-    in
-    let past-peer : let x = c.args in let s = state_of x.keeper in first (own_causes (C.Reply x.peer x.tag x.edges) ++ wait_causes s x.peer x.tag) ≡ first (cause 7 (not (s.waits x.peer && eqb x.tag (s.tag x.peer))) ∷ cause 8 (ltb longest_wait (waited s x.peer)) ∷ []) =
-    let x = c.args in
-    past_own
-    ∙ peer_past (state_of x.keeper) x.peer
-    (cause 7 (not ((state_of x.keeper).waits x.peer && eqb x.tag ((state_of x.keeper).tag x.peer)))
-    ∷ cause 8 (ltb longest_wait (waited (state_of x.keeper) x.peer)) ∷ [])
-    (sym c.peer_refusal-number.ensures ∙ c.if-number-ne0.false)
-    in
-    sym (past-peer ∙ rw (sym c.bit_of.ensures ∙ c.if-not-bit_of.true))
+    let kept = sym c.reply_within.ensures ∙ c.if-not-reply_within.false in
+    let none = sym c.peer_refusal-number.ensures ∙ c.if-number-ne0.false in
+    sym (past_peer x.keeper x.peer x.tag x.edges kept none ∙ rw (sym c.bit_of.ensures ∙ c.if-not-bit_of.true))
 
 pub bounds-tags-peer : goal.bounds-tags-peer
 bounds-tags-peer c =
-    let kept : (board_within c.args.peer && tag_within c.args.tag && edges_within c.args.edges) ≡ true =
-    sym c.reply_within.ensures ∙ c.if-not-reply_within.false
-    in
-    let small : c.args.peer ≤ 15 =
     let x = c.args in
-    board_bound _ (both (board_within x.peer) (tag_within x.tag) (both (board_within x.peer && tag_within x.tag) (edges_within x.edges) (kept)).0).0
-    in
-    omega (arith, small)
+    omega (arith, small x.keeper x.peer x.tag x.edges (sym c.reply_within.ensures ∙ c.if-not-reply_within.false))
 
 pub returns-then-tag-tags : goal.returns-then-tag-tags
 unfolding first state_of
 returns-then-tag-tags c =
-    let kept : (board_within c.args.peer && tag_within c.args.tag && edges_within c.args.edges) ≡ true =
-    sym c.reply_within.ensures ∙ c.if-not-reply_within.false
-    in
-    let past_own : first (own_causes (C.Reply c.args.peer c.args.tag c.args.edges) ++ wait_causes (state_of c.args.keeper) c.args.peer c.args.tag) ≡ first (wait_causes (state_of c.args.keeper) c.args.peer c.args.tag) =
     let x = c.args in
-    own_past _ (C.Reply x.peer x.tag x.edges) refl (kept)
-    in
-    let past-peer : let x = c.args in let s = state_of x.keeper in first (own_causes (C.Reply x.peer x.tag x.edges) ++ wait_causes s x.peer x.tag) ≡ first (cause 7 (not (s.waits x.peer && eqb x.tag (s.tag x.peer))) ∷ cause 8 (ltb longest_wait (waited s x.peer)) ∷ []) =
-    let x = c.args in
-    past_own
-    ∙ peer_past (state_of x.keeper) x.peer
-    (cause 7 (not ((state_of x.keeper).waits x.peer && eqb x.tag ((state_of x.keeper).tag x.peer)))
-    ∷ cause 8 (ltb longest_wait (waited (state_of x.keeper) x.peer)) ∷ [])
-    (sym c.peer_refusal-number.ensures ∙ c.if-number-ne0.false)
-    in
-    sym (past-peer ∙ rw (sym c.bit_of.ensures ∙ c.if-not-bit_of.false, ne_eqb _ _ c.if-tag-tags.true))
+    let kept = sym c.reply_within.ensures ∙ c.if-not-reply_within.false in
+    let none = sym c.peer_refusal-number.ensures ∙ c.if-number-ne0.false in
+    sym
+    (past_peer x.keeper x.peer x.tag x.edges kept none
+    ∙ rw (sym c.bit_of.ensures ∙ c.if-not-bit_of.false, ne_eqb _ _ c.if-tag-tags.true))
 
 pub bounds-sent_at-peer : goal.bounds-sent_at-peer
 bounds-sent_at-peer c =
-    let kept : (board_within c.args.peer && tag_within c.args.tag && edges_within c.args.edges) ≡ true =
-    sym c.reply_within.ensures ∙ c.if-not-reply_within.false
-    in
-    let small : c.args.peer ≤ 15 =
     let x = c.args in
-    board_bound _ (both (board_within x.peer) (tag_within x.tag) (both (board_within x.peer && tag_within x.tag) (edges_within x.edges) (kept)).0).0
-    in
-    omega (arith, small)
+    omega (arith, small x.keeper x.peer x.tag x.edges (sym c.reply_within.ensures ∙ c.if-not-reply_within.false))
 
 pub overflow_sub-keeper : goal.overflow_sub-keeper
-unfolding numbered state_of
+unfolding state_of
 overflow_sub-keeper c =
-    let kept : (board_within c.args.peer && tag_within c.args.tag && edges_within c.args.edges) ≡ true =
-    sym c.reply_within.ensures ∙ c.if-not-reply_within.false
-    in
-    let small : c.args.peer ≤ 15 =
     let x = c.args in
-    board_bound _ (both (board_within x.peer) (tag_within x.tag) (both (board_within x.peer && tag_within x.tag) (edges_within x.edges) (kept)).0).0
-    in
-    let started : counts_as_started c.args.keeper ≡ true =
-    let x = c.args in
-    not-false _ (first_none (peer_causes (state_of x.keeper) x.peer) refl (sym c.peer_refusal-number.ensures ∙ c.if-number-ne0.false)).0
-    in
-    let x = c.args in
-    sent_by x.keeper x.peer (started_read x.keeper (started)) (small) (sym c.bit_of.ensures ∙ c.if-not-bit_of.false)
+    let kept = sym c.reply_within.ensures ∙ c.if-not-reply_within.false in
+    let counts = started x.keeper x.peer (sym c.peer_refusal-number.ensures ∙ c.if-number-ne0.false) in
+    sent_by x.keeper x.peer (started_read x.keeper counts) (small x.keeper x.peer x.tag x.edges kept) (sym c.bit_of.ensures ∙ c.if-not-bit_of.false)
 
 pub returns-then-keeper-sent_at-gt-LONGEST_WAIT : goal.returns-then-keeper-sent_at-gt-LONGEST_WAIT
 unfolding first state_of
 returns-then-keeper-sent_at-gt-LONGEST_WAIT c =
-    let kept : (board_within c.args.peer && tag_within c.args.tag && edges_within c.args.edges) ≡ true =
-    sym c.reply_within.ensures ∙ c.if-not-reply_within.false
-    in
-    let past_own : first (own_causes (C.Reply c.args.peer c.args.tag c.args.edges) ++ wait_causes (state_of c.args.keeper) c.args.peer c.args.tag) ≡ first (wait_causes (state_of c.args.keeper) c.args.peer c.args.tag) =
     let x = c.args in
-    own_past _ (C.Reply x.peer x.tag x.edges) refl (kept)
-    in
-    let past-peer : let x = c.args in let s = state_of x.keeper in first (own_causes (C.Reply x.peer x.tag x.edges) ++ wait_causes s x.peer x.tag) ≡ first (cause 7 (not (s.waits x.peer && eqb x.tag (s.tag x.peer))) ∷ cause 8 (ltb longest_wait (waited s x.peer)) ∷ []) =
-    let x = c.args in
-    past_own
-    ∙ peer_past (state_of x.keeper) x.peer
-    (cause 7 (not ((state_of x.keeper).waits x.peer && eqb x.tag ((state_of x.keeper).tag x.peer)))
-    ∷ cause 8 (ltb longest_wait (waited (state_of x.keeper) x.peer)) ∷ [])
-    (sym c.peer_refusal-number.ensures ∙ c.if-number-ne0.false)
-    in
+    let kept = sym c.reply_within.ensures ∙ c.if-not-reply_within.false in
+    let none = sym c.peer_refusal-number.ensures ∙ c.if-number-ne0.false in
     sym
-    (past-peer
+    (past_peer x.keeper x.peer x.tag x.edges kept none
     ∙ rw (
       sym c.bit_of.ensures ∙ c.if-not-bit_of.false,
       eq-eqb _ _ c.if-tag-tags.false,
@@ -147,23 +107,11 @@ returns-then-keeper-sent_at-gt-LONGEST_WAIT c =
 pub returns : goal.returns
 unfolding first state_of
 returns c =
-    let kept : (board_within c.args.peer && tag_within c.args.tag && edges_within c.args.edges) ≡ true =
-    sym c.reply_within.ensures ∙ c.if-not-reply_within.false
-    in
-    let past_own : first (own_causes (C.Reply c.args.peer c.args.tag c.args.edges) ++ wait_causes (state_of c.args.keeper) c.args.peer c.args.tag) ≡ first (wait_causes (state_of c.args.keeper) c.args.peer c.args.tag) =
     let x = c.args in
-    own_past _ (C.Reply x.peer x.tag x.edges) refl (kept)
-    in
-    let past-peer : let x = c.args in let s = state_of x.keeper in first (own_causes (C.Reply x.peer x.tag x.edges) ++ wait_causes s x.peer x.tag) ≡ first (cause 7 (not (s.waits x.peer && eqb x.tag (s.tag x.peer))) ∷ cause 8 (ltb longest_wait (waited s x.peer)) ∷ []) =
-    let x = c.args in
-    past_own
-    ∙ peer_past (state_of x.keeper) x.peer
-    (cause 7 (not ((state_of x.keeper).waits x.peer && eqb x.tag ((state_of x.keeper).tag x.peer)))
-    ∷ cause 8 (ltb longest_wait (waited (state_of x.keeper) x.peer)) ∷ [])
-    (sym c.peer_refusal-number.ensures ∙ c.if-number-ne0.false)
-    in
+    let kept = sym c.reply_within.ensures ∙ c.if-not-reply_within.false in
+    let none = sym c.peer_refusal-number.ensures ∙ c.if-number-ne0.false in
     sym
-    (past-peer
+    (past_peer x.keeper x.peer x.tag x.edges kept none
     ∙ rw (
       sym c.bit_of.ensures ∙ c.if-not-bit_of.false,
       eq-eqb _ _ c.if-tag-tags.false,

@@ -1,5 +1,4 @@
 -- The shapes' words are looked for in the definition's order.
--- After each word that does not stand at the place: the line, the place, and the shapes that are left.
 use mathlib.Core.Path.{◌≡◌, sym, ◌∙◌}
 use lib.ListN.{drop}
 use Rattle.shapes.specs.Shapes.{numbered_shape, reply_shape}

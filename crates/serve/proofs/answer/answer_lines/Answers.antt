@@ -33,11 +33,17 @@ outcome-made e f = rw (e, f)
 pub write_answer-length-requires : goal.write_answer-length-requires
 unfolding answered
 write_answer-length-requires c =
-    let outcome-is : outcome_of c.match-reading.answer c.match-reading.now ≡ answered c.loop-at.now (take (c.loop-at.at - c.loop-at.next) (drop c.loop-at.next c.args.bytes.now)) =
-    let by : (r : Reading) → c.read_command-reading.result ≡ r → by_reading r c.loop-at.now ≡ by_reading (reading_of (take (c.loop-at.at - c.loop-at.next) (drop c.loop-at.next c.args.bytes.now))) c.loop-at.now =
-    λ r e. ap (λ (x : Reading). by_reading x c.loop-at.now) (sym e ∙ c.read_command-reading.ensures) in
+    -- the line of this turn
+    let line = take (c.loop-at.at - c.loop-at.next) (drop c.loop-at.next c.args.bytes.now) in
+    let before = c.loop-at.now in
+    let outcome-is : outcome_of c.match-reading.answer c.match-reading.now ≡ answered before line =
+    let by : (r : Reading) → c.read_command-reading.result ≡ r → by_reading r before ≡ by_reading (reading_of line) before =
+    λ r e. ap (λ (x : Reading). by_reading x before) (sym e ∙ c.read_command-reading.ensures) in
     elim c.match-reading.branch [
-      | in-Accepted w ↦ outcome-made (w.now-is ∙ w.put_back-now.ensures ∙ put_back_same _ _ w.apply_command-outcome.ensures) w.answer-is ∙ w.apply_command-outcome.ensures ∙ by _ w.in-Accepted.is
+      | in-Accepted w ↦
+          outcome-made (w.now-is ∙ w.put_back-now.ensures ∙ put_back_same _ _ w.apply_command-outcome.ensures) w.answer-is
+          ∙ w.apply_command-outcome.ensures
+          ∙ by _ w.in-Accepted.is
       | in-NoShape w ↦ outcome-made w.now-is w.answer-is ∙ by _ w.in-NoShape.is
       | in-OutsideLimits w ↦ outcome-made w.now-is w.answer-is ∙ by _ w.in-OutsideLimits.is
     ]
@@ -45,7 +51,7 @@ write_answer-length-requires c =
     let k = c.loop-at in
     let same = outcome-is in (
       part_room k.out k.filled c.if-out-filled-lt-LEAST_OUTPUT.false,
-      λ h. ap (λ (o : Outcome). counts_as_started o.keeper) same ∙ listed c.loop-at.now (take (c.loop-at.at - c.loop-at.next) (drop c.loop-at.next c.args.bytes.now)) (sym (ap (λ (o : Outcome). o.answer) same) ∙ h),
+      λ h. ap (λ (o : Outcome). counts_as_started o.keeper) same ∙ listed before line (sym (ap (λ (o : Outcome). o.answer) same) ∙ h),
     )
 
 pub overflow_add-filled : goal.overflow_add-filled
@@ -58,23 +64,32 @@ overflow_add-filled c =
 pub loop-at-preserved : goal.loop-at-preserved
 unfolding answered
 loop-at-preserved c =
-    let outcome-is : outcome_of c.match-reading.answer c.match-reading.now ≡ answered c.loop-at.now (take (c.loop-at.at - c.loop-at.next) (drop c.loop-at.next c.args.bytes.now)) =
-    let by : (r : Reading) → c.read_command-reading.result ≡ r → by_reading r c.loop-at.now ≡ by_reading (reading_of (take (c.loop-at.at - c.loop-at.next) (drop c.loop-at.next c.args.bytes.now))) c.loop-at.now =
-    λ r e. ap (λ (x : Reading). by_reading x c.loop-at.now) (sym e ∙ c.read_command-reading.ensures) in
+    -- the line of this turn
+    let line = take (c.loop-at.at - c.loop-at.next) (drop c.loop-at.next c.args.bytes.now) in
+    let before = c.loop-at.now in
+    let outcome-is : outcome_of c.match-reading.answer c.match-reading.now ≡ answered before line =
+    let by : (r : Reading) → c.read_command-reading.result ≡ r → by_reading r before ≡ by_reading (reading_of line) before =
+    λ r e. ap (λ (x : Reading). by_reading x before) (sym e ∙ c.read_command-reading.ensures) in
     elim c.match-reading.branch [
-      | in-Accepted w ↦ outcome-made (w.now-is ∙ w.put_back-now.ensures ∙ put_back_same _ _ w.apply_command-outcome.ensures) w.answer-is ∙ w.apply_command-outcome.ensures ∙ by _ w.in-Accepted.is
+      | in-Accepted w ↦
+          outcome-made (w.now-is ∙ w.put_back-now.ensures ∙ put_back_same _ _ w.apply_command-outcome.ensures) w.answer-is
+          ∙ w.apply_command-outcome.ensures
+          ∙ by _ w.in-Accepted.is
       | in-NoShape w ↦ outcome-made w.now-is w.answer-is ∙ by _ w.in-NoShape.is
       | in-OutsideLimits w ↦ outcome-made w.now-is w.answer-is ∙ by _ w.in-OutsideLimits.is
     ]
     in
     let started-is : c.if-number_of-eq0.started ≡ counts_as_started c.match-reading.now =
     let k = c.loop-at in
-    let same = outcome-is in
-    let keeper_is : counts_as_started c.match-reading.now ≡ counts_as_started (answered c.loop-at.now (take (c.loop-at.at - c.loop-at.next) (drop c.loop-at.next c.args.bytes.now))).keeper = ap (λ (o : Outcome). counts_as_started o.keeper) same in
-    let number_is : c.number_of.result ≡ number_of (answered c.loop-at.now (take (c.loop-at.at - c.loop-at.next) (drop c.loop-at.next c.args.bytes.now))).answer = c.number_of.ensures ∙ ap (λ (o : Outcome). number_of o.answer) same in
+    let keeper_is : counts_as_started c.match-reading.now ≡ counts_as_started (answered before line).keeper =
+    ap (λ (o : Outcome). counts_as_started o.keeper) outcome-is
+    in
+    let number_is : c.number_of.result ≡ number_of (answered before line).answer =
+    c.number_of.ensures ∙ ap (λ (o : Outcome). number_of o.answer) outcome-is
+    in
     elim c.if-number_of-eq0.branch [
-      | then-number_of-eq0 w ↦ w.started-is ∙ sym (keeper_is ∙ answered_starts c.loop-at.now (take (c.loop-at.at - c.loop-at.next) (drop c.loop-at.next c.args.bytes.now)) k.invariant.5 (sym number_is ∙ w.if-number_of-eq0.true))
-      | else-number_of-eq0 w ↦ w.started-is ∙ k.invariant.4 ∙ sym (keeper_is ∙ ap counts_as_started (refused_same c.loop-at.now (take (c.loop-at.at - c.loop-at.next) (drop c.loop-at.next c.args.bytes.now)) (λ e. w.if-number_of-eq0.false (number_is ∙ e))))
+      | then-number_of-eq0 w ↦ w.started-is ∙ sym (keeper_is ∙ answered_starts before line k.invariant.5 (sym number_is ∙ w.if-number_of-eq0.true))
+      | else-number_of-eq0 w ↦ w.started-is ∙ k.invariant.4 ∙ sym (keeper_is ∙ ap counts_as_started (refused_same before line (λ e. w.if-number_of-eq0.false (number_is ∙ e))))
     ]
     in
     let w = c.write_answer-length in
@@ -82,7 +97,7 @@ loop-at-preserved c =
     let a = c.args in
     let same = outcome-is in
     let within = filled_within k.out k.filled k.invariant.1 w.auto.out w.ensures in
-    let step : Step c.loop-at.now (take (c.loop-at.at - c.loop-at.next) (drop c.loop-at.next c.args.bytes.now)) (take (length k.out - k.filled) (drop k.filled k.out)) c.match-reading.now w.new.out w.result =
+    let step : Step before line (take (length k.out - k.filled) (drop k.filled k.out)) c.match-reading.now w.new.out w.result =
     record {
       keeper_is = ap (λ (o : Outcome). o.keeper) same;
       wrote = subst (λ (o : Outcome). Wrote o.answer o.keeper (take (length k.out - k.filled) (drop k.filled k.out)) w.new.out w.result) same w.ensures;
@@ -92,7 +107,7 @@ loop-at-preserved c =
       c.line_end-at-in-loop-at.ensures,
       line_answered a.bytes.now k.next k.at k.invariant.3 k.invariant.2 c.loop-at-test.true step,
       started-is,
-      subst (λ (o : Outcome). Sized o.keeper) (sym same) (answered_sized c.loop-at.now (take (c.loop-at.at - c.loop-at.next) (drop c.loop-at.next c.args.bytes.now)) k.invariant.5),
+      subst (λ (o : Outcome). Sized o.keeper) (sym same) (answered_sized before line k.invariant.5),
     )
 
 pub shape_of-out : goal.shape_of-out
