@@ -1,0 +1,3 @@
+-- Laws of the places of a mask.
+pub mod Lowest
+pub mod Passed

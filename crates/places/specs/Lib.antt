@@ -1,0 +1,2 @@
+-- The places of the set bits of a mask.
+pub mod Places
