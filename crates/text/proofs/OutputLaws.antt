@@ -2,8 +2,9 @@
 use mathlib.Core.Path.{◌≡◌, refl, sym, ap, ◌∙◌}
 use mathlib.Core.Bool.{Bool, true, false}
 use mathlib.Core.List.{List, ◌++◌, append_assoc}
-use Prim.Native.Nat.{ℕ, ◌+◌, ◌≤◌, ◌<◌}
+use Prim.Native.Nat.{ℕ, ◌+◌, ◌-◌, ◌≤◌, ◌<◌}
 use native.Mathlib.Omega.{arith}
+use borrow.Rule.Slice.PartMut.{put_mid, Post-is}
 use borrow.Author.Tests.{le-leb, lt-leb, leb-true, leb-false}
 use lib.Dec.{leb}
 use lib.ListN.{length, take, drop, length-append, length-take, length-drop}
@@ -18,6 +19,12 @@ written b at s = take at b ++ s ++ drop (at + length s) b
 pub room_put : {b s a : List ℕ} {at n : ℕ} → at + length s ≤ length b → a ≡ written b at s → n ≡ at + length s → Put b at s a n
 unfolding output_with place_after
 room_put {b} {s} {a} {at} {n} h e p = record { output = rw (le-leb (at + length s) (length b) h) e; place = rw (le-leb (at + length s) (length b) h) p }
+
+-- the bytes p in place of those from `at` up to `end`, where these are as many as s
+pub part_put : {b s p : List ℕ} {at end : ℕ} → end ≡ at + length s → end ≤ length b → p ≡ s → Put b at s (put_mid at (end - at) b p) end
+part_put {b} {s} {p} {at} {end} e h q =
+    let rest = Post-is at end b (omega arith) ∙ ap (λ (i : ℕ). drop i b) e in
+    room_put (omega arith) (rw (q, rest) (sym (append_assoc (take at b) s (drop (at + length s) b)))) e
 
 pub put_room : {b s a : List ℕ} {at n : ℕ} → at + length s ≤ length b → Put b at s a n → (a ≡ take at b ++ s ++ drop (at + length s) b) × (n ≡ at + length s)
 unfolding output_with place_after

@@ -1,17 +1,10 @@
 -- Laws of `starts_with` and `word_at`: a word stands at a place exactly when the line from there on is the word and some rest. By recursion over the word.
-use mathlib.Core.Path.{◌≡◌, refl, sym, ap, ◌∙◌}
-use mathlib.Core.Bool.{Bool, true, false, ◌&&◌, and-false}
-use mathlib.Core.List.{List, [], ◌∷◌, ◌++◌}
-use Prim.Native.Nat.{ℕ, ◌+◌, ◌-◌, ◌<◌}
-use native.Mathlib.Nat.{add_assoc}
-use native.Mathlib.Numerals.{add-one}
-use native.Mathlib.Omega.{arith}
-use borrow.Author.Tests.{eq-eqb, ne_eqb, eqb-true}
-use lib.Dec.{eqb}
-use lib.ListN.{length, get_or, drop, length-drop}
-use lib.Seq.{drop-cons, drop-drop, drop_at}
+use Rattle.std.proofs.Common.{◌≡◌, ℕ, ◌+◌, Bool, true, false, ◌&&◌, inl, inr, List, [], ◌∷◌, ◌++◌, length, take, drop, Option, Some, None, unwrap_or, refl, sym, ap, ◌∙◌, arith, eqb, eq-eqb, eqb-true, drop-drop, drop_at, drop_of_length-le}
+use denote.Ref.{Bor}
+use Rattle.std.specs.Cmp.Lexicographic.{pointwise}
+use Rattle.std.specs.Slice.{IsGetRangeResult}
+use Rattle.std.proofs.lemmas.List.{take_rest}
 use Rattle.text.specs.Words.{starts_with, word_at}
-use Rattle.text.specs.declared.words.Word.TheVariants.{After, Other}
 use Rattle.bits.specs.Choice.{choose}
 
 both_true : (p q : Bool) → (p && q) ≡ true → (p ≡ true) × (q ≡ true)
@@ -31,51 +24,41 @@ starts_rest (b ∷ w) (c ∷ l) h =
     let p = both_true (eqb b c) (starts_with w l) h in
     cc (eqb-true b c p.0, starts_rest w l p.1)
 
--- nothing begins with a longer word
-pub starts_short : (w l : List ℕ) → length l < length w → starts_with w l ≡ false
+-- the library's test of a slice's first elements is `starts_with`
+pub starts_pointwise : (w l : List ℕ) → pointwise eqb w (take (length w) l) ≡ starts_with w l
 unfolding starts_with
-starts_short [] l h = absurd (omega arith)
-starts_short (b ∷ w) [] h = refl
-starts_short (b ∷ w) (c ∷ l) h = rw (starts_short w l (omega arith)) (and-false (eqb b c))
+starts_pointwise [] l = refl
+starts_pointwise (b ∷ w) [] = refl
+starts_pointwise (b ∷ w) (c ∷ l) = ap (λ (t : Bool). eqb b c && t) (starts_pointwise w l)
 
-pub starts_empty : (w l : List ℕ) → length w ≡ 0 → starts_with w l ≡ true
-unfolding starts_with
-starts_empty [] l h = refl
-starts_empty (b ∷ w) l h = absurd (omega arith)
+-- the line from a place on, and no bytes past its end
+pub line_from : (line : List ℕ) (at : ℕ) (r : Option (Bor (List ℕ))) (past : Bor (List ℕ)) → past.now ≡ [] → IsGetRangeResult line at (length line) r
+    → (unwrap_or r past).now ≡ drop at line
+line_from line at None past e (inl outside, q) = e ∙ sym (drop_of_length-le line (omega arith))
+line_from line at None past e (inr longer, q) = absurd (omega arith)
+line_from line at (Some rest) past e (p, q) = p.2 ∙ take_rest line at
 
--- what is left of the word from i on begins what is left of the line: the next byte of each, and then the rest of each
-module _ (w l : List ℕ) (at i : ℕ) (p : i < length w) (q : at + i < length l) where
-  starts_next : starts_with (drop i w) (drop (at + i) l) ≡ (eqb (get_or w i 0) (get_or l (at + i) 0) && starts_with (drop (i + 1) w) (drop (at + (i + 1)) l))
-  unfolding starts_with
-  starts_next = rw (← add_assoc at i 1, add-one (at + i), add-one i, drop-cons w i 0 p, drop-cons l (at + i) 0 q)
-
-  pub starts_same : get_or l (at + i) 0 ≡ get_or w i 0 → starts_with (drop i w) (drop (at + i) l) ≡ starts_with (drop (i + 1) w) (drop (at + (i + 1)) l)
-  starts_same e = starts_next ∙ rw (eq-eqb (get_or w i 0) (get_or l (at + i) 0) (sym e))
-
-  pub starts_differ : (get_or l (at + i) 0 ≡ get_or w i 0 → ⊥) → starts_with (drop i w) (drop (at + i) l) ≡ false
-  starts_differ n = starts_next ∙ rw (ne_eqb (get_or w i 0) (get_or l (at + i) 0) (λ e. n (sym e)))
+-- the test of what the line has from the place on
+pub word_tested : (line : List ℕ) (at : ℕ) (w rest : List ℕ) (t : Bool) → rest ≡ drop at line → t ≡ pointwise eqb w (take (length w) rest) → starts_with w (drop at line) ≡ t
+word_tested line at w rest t e h = rw (← e) (sym (h ∙ starts_pointwise w rest))
 
 -- the answer is by the one test of `word_at`
-pub word_here : (line : List ℕ) (at : ℕ) (w : List ℕ) → starts_with w (drop at line) ≡ true → word_at line at w ≡ After (at + length w)
+pub word_here : (line : List ℕ) (at : ℕ) (w : List ℕ) → starts_with w (drop at line) ≡ true → word_at line at w ≡ Some (at + length w)
 unfolding word_at
 word_here line at w e = rw e
 
-pub word_other : (line : List ℕ) (at : ℕ) (w : List ℕ) → starts_with w (drop at line) ≡ false → word_at line at w ≡ Other
+pub word_other : (line : List ℕ) (at : ℕ) (w : List ℕ) → starts_with w (drop at line) ≡ false → word_at line at w ≡ None
 unfolding word_at
 word_other line at w e = rw e
 
--- fewer bytes are left than the word has
-pub word_short : (line : List ℕ) (at : ℕ) (w : List ℕ) → length line - at < length w → word_at line at w ≡ Other
-word_short line at w h = word_other line at w (starts_short w (drop at line) (rw (length-drop at line) h))
-
-pub word_found : (line : List ℕ) (at : ℕ) (w rest : List ℕ) → drop at line ≡ w ++ rest → word_at line at w ≡ After (at + length w)
+pub word_found : (line : List ℕ) (at : ℕ) (w rest : List ℕ) → drop at line ≡ w ++ rest → word_at line at w ≡ Some (at + length w)
 word_found line at w rest e = word_here line at w (rw e (starts_more w rest))
 
-pub found_word : (line : List ℕ) (at : ℕ) (w : List ℕ) (next : ℕ) → word_at line at w ≡ After next → (next ≡ at + length w) × (drop at line ≡ w ++ drop next line)
+pub found_word : (line : List ℕ) (at : ℕ) (w : List ℕ) (next : ℕ) → word_at line at w ≡ Some next → (next ≡ at + length w) × (drop at line ≡ w ++ drop next line)
 unfolding word_at
 found_word line at w next e = go (starts_with w (drop at line)) refl e
   where
-    go : (t : Bool) → starts_with w (drop at line) ≡ t → choose t (λ _. After (at + length w)) (λ _. Other) ≡ After next
+    go : (t : Bool) → starts_with w (drop at line) ≡ t → choose t (λ _. Some (at + length w)) (λ _. None) ≡ Some next
         → (next ≡ at + length w) × (drop at line ≡ w ++ drop next line)
     go true s h =
         let n : next ≡ at + length w = cc in

@@ -1,11 +1,9 @@
 -- A line is a list of bytes, and a word of a form stands at a place of it: document 01, 'Line forms'.
-use Rattle.std.specs.Prelude.{◌≡◌, Bool, true, false, ◌&&◌, List, [], ◌∷◌, ◌++◌, ℕ, ◌+◌, eqb, length, drop}
+use Rattle.std.specs.Prelude.{◌≡◌, Bool, true, false, ◌&&◌, List, [], ◌∷◌, ◌++◌, ℕ, ◌+◌, eqb, length, drop, Option, Some, None}
 use Prim.Native.Char.{code}
 use Prim.Native.String.{String}
 use Prim.Native.String as Text
 use Rattle.bits.specs.Choice.{choose}
-use Rattle.text.specs.declared.words.Word.{Word}
-use Rattle.text.specs.declared.words.Word.TheVariants.{After, Other}
 
 -- The bytes of a text: the code of each of its characters.
 abbrev pub bytes : String → List ℕ
@@ -25,6 +23,6 @@ pub record Stands (Kind : List ℕ → Type 0) (line : List ℕ) (at next : ℕ)
   pub here : drop at line ≡ bytes ++ drop next line
   pub after : next ≡ at + length bytes
 
--- The word stands at the place, and what follows it begins at the place given; or it does not stand there.
-unfoldable pub word_at : List ℕ → ℕ → List ℕ → Word
-word_at line at word = choose (starts_with word (drop at line)) (λ _. After (at + length word)) (λ _. Other)
+-- Where the word stands at the place, the place after it.
+unfoldable pub word_at : List ℕ → ℕ → List ℕ → Option ℕ
+word_at line at word = choose (starts_with word (drop at line)) (λ _. Some (at + length word)) (λ _. None)

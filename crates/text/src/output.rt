@@ -5,16 +5,9 @@ ghost use Rattle.text.specs.Output.{Put};
 pub fn put_bytes(out: &mut [u8], at: usize, s: &[u8]) -> usize
     ensures { Put out.old at s.now out.new result }
 {
-    if out.len() < s.len() {
+    if out.len() < s.len() || out.len() - s.len() < at {
         return at;
     }
-    if out.len() - s.len() < at {
-        return at;
-    }
-    let mut i = 0;
-    while i < s.len() {
-        out[at + i] = s[i];
-        i += 1;
-    }
-    at + i
+    out[at..at + s.len()].copy_from_slice(s);
+    at + s.len()
 }
