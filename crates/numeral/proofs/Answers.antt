@@ -1,10 +1,9 @@
 -- Which answer a run of digits has: by its length, its first byte and the byte after it. For the proofs of the code.
-use Rattle.std.proofs.Common.{◌≡◌, ℕ, suc, ◌+◌, ◌-◌, ◌^◌, ◌<◌, ◌≤◌, Bool, true, false, ◌&&◌, leb, List, [], ◌∷◌, length, get_or, drop, sym, refl, ◌∙◌, add-zero, lt_of_not-le, arith, get_or-drop, eq-eqb, ne_eqb, le-leb, leb-false, leb-true}
+use Rattle.std.proofs.Common.{Some, None, ◌≡◌, ℕ, suc, ◌+◌, ◌-◌, ◌^◌, ◌<◌, ◌≤◌, Bool, true, false, ◌&&◌, leb, List, [], ◌∷◌, length, get_or, drop, sym, refl, ◌∙◌, add-zero, lt_of_not-le, arith, get_or-drop, eq-eqb, ne_eqb, le-leb, leb-false, leb-true}
 use borrow.Author.Tests.{lt-leb}
 use Rattle.bits.proofs.Tests.{clash, by_test}
 use Rattle.numeral.specs.Progress.{TellsDigit, Progress, Ended, EndedInside, GoesOn}
 use Rattle.numeral.specs.Reading.{run, value_from, well_formed, first_group, at_underscore, number_in, groups_from, number_from, number_at}
-use Rattle.numeral.specs.declared.read.Number.TheVariants as N
 use Rattle.numeral.proofs.Reading.{false_and, run_none, run_underscore, run_some, run_other, run_value, ends_no_underscore, run_head, digit_here}
 
 -- ---- the answer, by the length of the run and its first byte
@@ -78,15 +77,15 @@ module _ (line : List ℕ) (at : ℕ) where
   unfolding number_at number_from
   first_at m e = rw (m, e)
 
-  absent_first : at_underscore rest ≡ true → first_group r ≡ false → number_at line at ≡ N.Absent
+  absent_first : at_underscore rest ≡ true → first_group r ≡ false → number_at line at ≡ None
   unfolding number_at number_from
   absent_first m e = rw (m, e)
 
-  absent_in : well_formed r ≡ false → number_in r at ≡ N.Absent
+  absent_in : well_formed r ≡ false → number_in r at ≡ None
   unfolding number_in
   absent_in e = rw e
 
-  absent_both : (at_underscore rest ≡ false → well_formed r ≡ false) → first_group r ≡ false → number_at line at ≡ N.Absent
+  absent_both : (at_underscore rest ≡ false → well_formed r ≡ false) → first_group r ≡ false → number_at line at ≡ None
   absent_both p q = by_test (at_underscore rest) (λ m. absent_first m q) (λ m. plain_at m ∙ absent_in (p m))
 
 -- The digits up to a place are read, and the run ends there.
@@ -128,20 +127,20 @@ module _ {line : List ℕ} {at value next : ℕ} (read : Ended line at value nex
   plain_here : number_at line at ≡ number_in (run (drop at line)) at
   plain_here = plain_at line at (rw (place_is read.progress over) (ends_no_underscore (drop next line) read.ends))
 
-  number : well_formed (run (drop at line)) ≡ true → number_at line at ≡ N.Of value next
+  number : well_formed (run (drop at line)) ≡ true → number_at line at ≡ Some (value, next)
   unfolding number_in
   number e = plain_here ∙ rw (e, value_is read.progress over, place_is read.progress over)
 
-  pub absent_none : next - at ≡ 0 → number_at line at ≡ N.Absent
+  pub absent_none : next - at ≡ 0 → number_at line at ≡ None
   absent_none h = plain_here ∙ absent_in line at (formed_not_empty _ (count ∙ h))
 
-  pub absent_zero : 1 < next - at → get_or line at 0 ≡ 48 → number_at line at ≡ N.Absent
+  pub absent_zero : 1 < next - at → get_or line at 0 ≡ 48 → number_at line at ≡ None
   absent_zero h z = plain_here ∙ absent_in line at (formed_not_zero _ (omega (arith, count)) (run_head line at (omega (arith, count)) ∙ z))
 
-  pub number_one : next - at ≡ 1 → number_at line at ≡ N.Of value next
+  pub number_one : next - at ≡ 1 → number_at line at ≡ Some (value, next)
   number_one h = number (formed_one _ (count ∙ h))
 
-  pub number_more : 1 < next - at → (get_or line at 0 ≡ 48 → ⊥) → number_at line at ≡ N.Of value next
+  pub number_more : 1 < next - at → (get_or line at 0 ≡ 48 → ⊥) → number_at line at ≡ Some (value, next)
   number_more h z =
       number (formed_more _ (omega (arith, count)) (omega (arith, count, most)) (λ e. z (sym (run_head line at (omega (arith, count))) ∙ e)))
 
@@ -160,12 +159,12 @@ module _ {line : List ℕ} {at value next : ℕ} (read : EndedInside line at val
     second_inside = omega (arith, read.ended.progress.from, read.inside, zero_then)
 
     module _ {d : ℕ} (told : TellsDigit (get_or line (at + 1) 0) d) where
-      pub inside_zeros : d ≤ 9 → number_at line at ≡ N.Absent
+      pub inside_zeros : d ≤ 9 → number_at line at ≡ None
       inside_zeros h =
           let second = (digit_here line (at + 1) d second_inside h told).long in
           absent_zero read.ended (omega (arith, zero_then, second)) zero
 
-      pub inside_zero : 9 < d → number_at line at ≡ N.Of value next
+      pub inside_zero : 9 < d → number_at line at ≡ Some (value, next)
       inside_zero h = number_one read.ended (zero_then ∙ rw (run_other line (at + 1) second_inside (told.other h)) (omega arith))
 
   module _ (other : get_or line at 0 ≡ 48 → ⊥) where
@@ -176,19 +175,19 @@ module _ {line : List ℕ} {at value next : ℕ} (read : EndedInside line at val
         let above = run_value (drop at line) many (λ e. other (sym (get_or-drop at line 0 0 ∙ rw (add-zero at)) ∙ e)) in
         omega (arith, above, value_is read.ended.progress (over read.ended))
 
-    pub inside_none : value ≡ 0 → number_at line at ≡ N.Absent
+    pub inside_none : value ≡ 0 → number_at line at ≡ None
     inside_none h = absent_none read.ended (omega (arith, lt_of_not-le (λ (l : 1 ≤ next - at). let some = some_value (omega arith) in omega (arith, some))))
 
-    pub inside_some : (value ≡ 0 → ⊥) → number_at line at ≡ N.Of value next
+    pub inside_some : (value ≡ 0 → ⊥) → number_at line at ≡ Some (value, next)
     inside_some h = by_test (leb (next - at) 1) one more
       where
         some : 0 < next - at
         some = lt_of_not-le (λ (l : next - at ≤ 0). h (no_value read.ended.progress (omega arith)))
 
-        one : leb (next - at) 1 ≡ true → number_at line at ≡ N.Of value next
+        one : leb (next - at) 1 ≡ true → number_at line at ≡ Some (value, next)
         one e = number_one read.ended (omega (arith, some, leb-true (next - at) 1 e))
 
-        more : leb (next - at) 1 ≡ false → number_at line at ≡ N.Of value next
+        more : leb (next - at) 1 ≡ false → number_at line at ≡ Some (value, next)
         more e = number_more read.ended (leb-false (next - at) 1 e) other
 
 -- The digits up to a place are read, and a `_` follows them.
@@ -202,30 +201,30 @@ module _ {line : List ℕ} {at value next : ℕ} (p : Progress line at value nex
   underscore_after : at_underscore (drop (at + length (run (drop at line))) line) ≡ true
   underscore_after = rw (place_is p gone) follows
 
-  not_first : first_group (run (drop at line)) ≡ false → number_at line at ≡ N.Absent
+  not_first : first_group (run (drop at line)) ≡ false → number_at line at ≡ None
   not_first e = absent_first line at underscore_after e
 
 -- Likewise, or a digit does after 19.
 module _ {line : List ℕ} {at value next : ℕ} (read : GoesOn line at value next) where
-  pub first_none : next - at ≡ 0 → number_at line at ≡ N.Absent
+  pub first_none : next - at ≡ 0 → number_at line at ≡ None
   first_none h =
       let u = read.with_underscore (omega (arith, read.progress.from)) in
       not_first read.progress u (first_group_none _ (long read.progress u ∙ h))
 
   -- a twentieth digit, or a `_` after more than three
-  pub first_long : 3 < next - at → number_at line at ≡ N.Absent
+  pub first_long : 3 < next - at → number_at line at ≡ None
   first_long h = by_test (at_underscore (drop next line)) with_it without_it
     where
-      with_it : at_underscore (drop next line) ≡ true → number_at line at ≡ N.Absent
+      with_it : at_underscore (drop next line) ≡ true → number_at line at ≡ None
       with_it u = not_first read.progress u (first_group_long _ (omega (arith, long read.progress u)))
 
-      without_it : at_underscore (drop next line) ≡ false → number_at line at ≡ N.Absent
+      without_it : at_underscore (drop next line) ≡ false → number_at line at ≡ None
       without_it u =
           let all : at + 19 ≤ next = omega (arith, lt_of_not-le (λ (l : suc next ≤ at + 19). clash (read.with_underscore l) u)) in
           let more : 19 < length (run (drop at line)) = omega (arith, longer read.progress, run_some (drop next line) read.on u, read.progress.from) in
           absent_both line at (λ m. formed_not_long _ more) (first_group_long _ (omega (arith, more)))
 
-  pub first_zero : 0 < next - at → next - at ≤ 3 → get_or line at 0 ≡ 48 → number_at line at ≡ N.Absent
+  pub first_zero : 0 < next - at → next - at ≤ 3 → get_or line at 0 ≡ 48 → number_at line at ≡ None
   first_zero h k z =
       let u = read.with_underscore (omega (arith, read.progress.from)) in
       not_first read.progress u (first_group_zero _ (run_head line at (omega (arith, long read.progress u)) ∙ z))

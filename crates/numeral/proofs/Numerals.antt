@@ -1,7 +1,7 @@
 -- Numerals and their readers. A numeral is what the sentences of the papers describe (`described`); where one stands and does not go on,
 -- it is read as its number (`numeral_read`); and what is read is a numeral of that number (`read_numeral`), that does not go on
 -- (`read_ends`).
-use Rattle.std.proofs.Common.{◌≡◌, ℕ, zero, suc, ◌+◌, ◌-◌, ◌*◌, ◌/◌, ◌%◌, ◌<◌, ◌≤◌, Bool, true, false, not, ◌&&◌, eqb, ltb, leb, ◌⊎◌, ◌↔◌, List, [], ◌∷◌, ◌++◌, length, get_or, drop, sym, refl, ap, ◌∙◌, subst, inl, inr, append_assoc, append-nil, lt_of_not-le, arith, length-append, drop-drop, ltb-false, ltb-true, leb-false, leb-true}
+use Rattle.std.proofs.Common.{Option, Some, None, ◌≡◌, ℕ, zero, suc, ◌+◌, ◌-◌, ◌*◌, ◌/◌, ◌%◌, ◌<◌, ◌≤◌, Bool, true, false, not, ◌&&◌, eqb, ltb, leb, ◌⊎◌, ◌↔◌, List, [], ◌∷◌, ◌++◌, length, get_or, drop, sym, refl, ap, ◌∙◌, subst, inl, inr, append_assoc, append-nil, lt_of_not-le, arith, length-append, drop-drop, ltb-false, ltb-true, leb-false, leb-true}
 use borrow.Author.Tests.{not-true, eqb-false}
 use lib.ListN.{get_or-append}
 use Rattle.bits.proofs.Tests.{both}
@@ -11,10 +11,9 @@ use Rattle.numeral.specs.Digits.{digits}
 use Rattle.numeral.specs.Groups.{grouped, ungrouped}
 use Rattle.numeral.specs.Numerals.{Numeral, AllDigits, none, more, Plain, Groups, end, group, InGroups, Described}
 use Rattle.numeral.specs.Reading.{is_digit, at_underscore, numeral_ends, run, value_from, well_formed, first_group, groups_from, number_in, number_from, number_at}
-use Rattle.numeral.specs.declared.read.Number.TheVariants as N
 use Rattle.numeral.proofs.Digits.{digits_one, digits_more, digits_some}
 use Rattle.numeral.proofs.GroupLaws.{all_append, ungrouped_digits, ungrouped_group, ungrouped_grouped, groups_digits, grouped_is, grouped_length, in_groups_are, Cut, cut}
-use Rattle.numeral.proofs.Reading.{is_digit_lem, digit_bounds, run_none, run_underscore, ends_no_underscore}
+use Rattle.numeral.proofs.Reading.{same_parts, is_digit_lem, digit_bounds, run_none, run_underscore, ends_no_underscore}
 use Rattle.numeral.proofs.GroupReading.{groups_read, groups_back}
 use Rattle.numeral.proofs.Answers.{formed_one, formed_more, formed_not_empty, formed_not_long, formed_not_zero, first_group_some}
 use Rattle.bits.specs.Choice.{choose}
@@ -252,14 +251,14 @@ first_group_back r e =
 -- ---- a numeral is read
 
 module _ (line : List ℕ) (at n : ℕ) (rest : List ℕ) (small : length (digits n) ≤ 19) (ends : numeral_ends rest ≡ true) where
-  plain_read : drop at line ≡ digits n ++ rest → number_at line at ≡ N.Of n (at + length (digits n))
+  plain_read : drop at line ≡ digits n ++ rest → number_at line at ≡ Some (n, at + length (digits n))
   unfolding number_at number_from number_in
   plain_read e =
       rw (e, run_all (digits_all n) rest (run_none rest ends), rest_is line at (digits n) rest e, ends_no_underscore rest ends, plain_formed (digits n) (digits_plain n small), value_digits n)
 
   -- a first group, and at least one more
   in_groups_read : (first s : List ℕ) → AllDigits first → 1 ≤ length first → length first ≤ 3 → Groups s → digits n ≡ first ++ ungrouped s → at_underscore (s ++ rest) ≡ true → 1 ≤ length (ungrouped s)
-      → drop at line ≡ first ++ (s ++ rest) → number_at line at ≡ N.Of n (at + length (first ++ s))
+      → drop at line ≡ first ++ (s ++ rest) → number_at line at ≡ Some (n, at + length (first ++ s))
   unfolding number_at number_from
   in_groups_read first s all some most g spelt mark more-digits e =
       let long : length (digits n) ≡ length first + length (ungrouped s) = ap length spelt ∙ length-append first (ungrouped s) in
@@ -272,14 +271,14 @@ module _ (line : List ℕ) (at n : ℕ) (rest : List ℕ) (small : length (digit
       rw (e, run_all all (s ++ rest) (run_underscore (s ++ rest) mark), rest_is line at first (s ++ rest) e, mark, first_group_some first some most lead)
       (groups_read g (value_from 0 first) (length first) (at + length first) rest ends (omega (arith, long)) ∙ rw (value, place))
 
-  grouped_read : drop at line ≡ grouped (digits n) ++ rest → number_at line at ≡ N.Of n (at + length (grouped (digits n)))
+  grouped_read : drop at line ≡ grouped (digits n) ++ rest → number_at line at ≡ Some (n, at + length (grouped (digits n)))
   unfolding ungrouped
   grouped_read e = go c.rest c.groups c.digits c.spelt
     where
       c : Cut (digits n)
       c = cut (digits n) (digits_all n) (digits_some n)
 
-      go : (s : List ℕ) → Groups s → digits n ≡ c.first ++ ungrouped s → grouped (digits n) ≡ c.first ++ s → number_at line at ≡ N.Of n (at + length (grouped (digits n)))
+      go : (s : List ℕ) → Groups s → digits n ≡ c.first ++ ungrouped s → grouped (digits n) ≡ c.first ++ s → number_at line at ≡ Some (n, at + length (grouped (digits n)))
       go s end p q =
           let same : grouped (digits n) ≡ digits n = q ∙ sym p in
           rw same (plain_read (e ∙ ap (λ (x : List ℕ). x ++ rest) same))
@@ -289,10 +288,10 @@ module _ (line : List ℕ) (at n : ℕ) (rest : List ℕ) (small : length (digit
 
 -- a numeral that stands at a place, and that does not go on, is read as its number
 pub numeral_read : (line : List ℕ) (at n : ℕ) (s rest : List ℕ)
-    → Numeral n s → drop at line ≡ s ++ rest → numeral_ends rest ≡ true → number_at line at ≡ N.Of n (at + length s)
+    → Numeral n s → drop at line ≡ s ++ rest → numeral_ends rest ≡ true → number_at line at ≡ Some (n, at + length s)
 numeral_read line at n s rest m e f = go m.spelling
   where
-    go : (s ≡ digits n) ⊎ (s ≡ grouped (digits n)) → number_at line at ≡ N.Of n (at + length s)
+    go : (s ≡ digits n) ⊎ (s ≡ grouped (digits n)) → number_at line at ≡ Some (n, at + length s)
     go (inl p) = rw p (plain_read line at n rest m.most f (e ∙ ap (λ (x : List ℕ). x ++ rest) p))
     go (inr p) = rw p (grouped_read line at n rest m.most f (e ∙ ap (λ (x : List ℕ). x ++ rest) p))
 
@@ -325,16 +324,15 @@ module _ (line : List ℕ) (at n next : ℕ) where
   front : drop at line ≡ r ++ after
   front = run_front (drop at line) ∙ ap (λ (x : List ℕ). r ++ x) (drop-drop (length r) at line)
 
-  plain_back : at_underscore after ≡ false → number_in r at ≡ N.Of n next → NumeralRead line at n next
+  plain_back : at_underscore after ≡ false → number_in r at ≡ Some (n, next) → NumeralRead line at n next
   unfolding number_in
   plain_back m e = go (well_formed r) refl e
     where
-      go : (t : Bool) → well_formed r ≡ t → choose t (λ _. N.Of (value_from 0 r) (at + length r)) (λ _. N.Absent) ≡ N.Of n next → NumeralRead line at n next
+      go : (t : Bool) → well_formed r ≡ t → choose {A = Option (ℕ × ℕ)} t (λ _. Some (value_from 0 r, at + length r)) (λ _. None) ≡ Some (n, next) → NumeralRead line at n next
       go false w h = absurd (let k : ◌≡◌ {A = ℕ} 0 1 = cc in omega arith)
       go true w h =
           let d : Plain r = formed_plain r (run_digits (drop at line)) w in
-          let value : value_from 0 r ≡ n = cc in
-          let place : at + length r ≡ next = cc in
+          let (value, place) = same_parts h in
           let spelt : r ≡ digits n = sym (plain_value r d) ∙ ap digits value in
           let stop : numeral_ends after ≡ true = rw (← drop-drop (length r) at line) (run_ends (drop at line) (rw (← drop-drop (length r) at line) at m)) in
           record {
@@ -348,7 +346,7 @@ module _ (line : List ℕ) (at n next : ℕ) where
             ends = rw (← place) stop;
           }
 
-  in_groups_back : first_group r ≡ true → groups_from (value_from 0 r) (length r) (at + length r) after ≡ N.Of n next → NumeralRead line at n next
+  in_groups_back : first_group r ≡ true → groups_from (value_from 0 r) (length r) (at + length r) after ≡ Some (n, next) → NumeralRead line at n next
   in_groups_back l e =
       let (some, most, lead) = first_group_back r l in
       let g = groups_back (value_from 0 r) (length r) (at + length r) after n next (omega arith) e in
@@ -381,25 +379,25 @@ module _ (line : List ℕ) (at n next : ℕ) where
         ends = rw rest g.ends;
       }
 
-  back : number_at line at ≡ N.Of n next → NumeralRead line at n next
+  back : number_at line at ≡ Some (n, next) → NumeralRead line at n next
   unfolding number_at number_from
   back e = go (at_underscore after) refl e
     where
       first : (t : Bool) → first_group r ≡ t
-          → choose t (λ _. groups_from (value_from 0 r) (length r) (at + length r) after) (λ _. N.Absent) ≡ N.Of n next → NumeralRead line at n next
+          → choose t (λ _. groups_from (value_from 0 r) (length r) (at + length r) after) (λ _. None) ≡ Some (n, next) → NumeralRead line at n next
       first true l h = in_groups_back l h
       first false l h = absurd (let k : ◌≡◌ {A = ℕ} 0 1 = cc in omega arith)
 
       go : (t : Bool) → at_underscore after ≡ t
-          → choose t (λ _. choose (first_group r) (λ _. groups_from (value_from 0 r) (length r) (at + length r) after) (λ _. N.Absent)) (λ _. number_in r at) ≡ N.Of n next
+          → choose t (λ _. choose (first_group r) (λ _. groups_from (value_from 0 r) (length r) (at + length r) after) (λ _. None)) (λ _. number_in r at) ≡ Some (n, next)
           → NumeralRead line at n next
       go true m h = first (first_group r) refl h
       go false m h = plain_back m h
 
   -- what is read is a numeral, and the place given is the one after it
-  pub read_numeral : number_at line at ≡ N.Of n next → Stands (Numeral n) line at next
+  pub read_numeral : number_at line at ≡ Some (n, next) → Stands (Numeral n) line at next
   read_numeral e = (back e).stands
 
   -- after a numeral that is read no digit and no `_` stands
-  pub read_ends : number_at line at ≡ N.Of n next → numeral_ends (drop next line) ≡ true
+  pub read_ends : number_at line at ≡ Some (n, next) → numeral_ends (drop next line) ≡ true
   read_ends e = (back e).ends

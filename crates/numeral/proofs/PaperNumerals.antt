@@ -1,12 +1,11 @@
 -- Order 4's own spellings, and those that stand beside them: which are numerals, and of which number, and which are none.
-use Rattle.std.proofs.Common.{◌≡◌, ℕ, suc, ◌+◌, ◌≤◌, [], length, ℤ, pos, negsuc, sym, refl, subst, inr, append-nil, arith}
+use Rattle.std.proofs.Common.{Some, None, ◌≡◌, ℕ, suc, ◌+◌, ◌≤◌, [], length, ℤ, pos, negsuc, sym, refl, subst, inr, append-nil, arith}
 use Prim.Native.String.{String}
 use Rattle.text.specs.Words.{bytes}
 use Rattle.numeral.specs.Digits.{digits_in, digits}
 use Rattle.numeral.specs.Groups.{grouped}
 use Rattle.numeral.specs.Numerals.{Numeral, SignedNumeral}
 use Rattle.numeral.specs.Reading.{run, value_from, well_formed, first_group, ended_at, groups_from, number_in, number_from, number_at}
-use Rattle.numeral.specs.declared.read.Number.TheVariants as N
 use Rattle.numeral.proofs.Numerals.{numeral_read}
 
 -- a number below 10^19 whose digits in groups the bytes are
@@ -14,9 +13,9 @@ spelt_in_groups : (n : ℕ) (t : String) → bytes t ≡ grouped (digits n) → 
 spelt_in_groups n t e h = record { spelling = inr e; most = h }
 
 -- bytes that are read as no numeral are none
-none : (t : String) → number_at (bytes t) 0 ≡ N.Absent → (n : ℕ) → Numeral n (bytes t) → ⊥
+none : (t : String) → number_at (bytes t) 0 ≡ None → (n : ℕ) → Numeral n (bytes t) → ⊥
 none t e n m =
-    let read : number_at (bytes t) 0 ≡ N.Of n (0 + length (bytes t)) = numeral_read (bytes t) 0 n (bytes t) [] m (sym (append-nil (bytes t))) refl in
+    let read : number_at (bytes t) 0 ≡ Some (n, 0 + length (bytes t)) = numeral_read (bytes t) 0 n (bytes t) [] m (sym (append-nil (bytes t))) refl in
     (let k : ◌≡◌ {A = ℕ} 0 1 = cc in omega arith)
 
 -- ---- numerals
@@ -50,63 +49,63 @@ negative_thousand = (bytes "1_000", thousand, refl)
 
 -- ---- and none
 
-abbrev None : String → Type 0
-None t = (n : ℕ) → Numeral n (bytes t) → ⊥
+abbrev NoNumeral : String → Type 0
+NoNumeral t = (n : ℕ) → Numeral n (bytes t) → ⊥
 
 -- a last group of one digit
-pub short_last : None "12_7"
+pub short_last : NoNumeral "12_7"
 unfolding run value_from well_formed first_group ended_at groups_from number_in number_from number_at
 short_last = none "12_7" refl
 
 -- a first group of four
-pub long_first : None "1000_000"
+pub long_first : NoNumeral "1000_000"
 unfolding run value_from well_formed first_group ended_at groups_from number_in number_from number_at
 long_first = none "1000_000" refl
 
 -- nothing before the `_`
-pub no_first : None "_100"
+pub no_first : NoNumeral "_100"
 unfolding run value_from well_formed first_group ended_at groups_from number_in number_from number_at
 no_first = none "_100" refl
 
 -- nothing after it
-pub no_last : None "100_"
+pub no_last : NoNumeral "100_"
 unfolding run value_from well_formed first_group ended_at groups_from number_in number_from number_at
 no_last = none "100_" refl
 
 -- two together
-pub doubled : None "1__000"
+pub doubled : NoNumeral "1__000"
 unfolding run value_from well_formed first_group ended_at groups_from number_in number_from number_at
 doubled = none "1__000" refl
 
-pub two_last : None "1_00"
+pub two_last : NoNumeral "1_00"
 unfolding run value_from well_formed first_group ended_at groups_from number_in number_from number_at
 two_last = none "1_00" refl
 
-pub four_last : None "1_0000"
+pub four_last : NoNumeral "1_0000"
 unfolding run value_from well_formed first_group ended_at groups_from number_in number_from number_at
 four_last = none "1_0000" refl
 
 -- at some groups only
-pub some_only : None "1_000000"
+pub some_only : NoNumeral "1_000000"
 unfolding run value_from well_formed first_group ended_at groups_from number_in number_from number_at
 some_only = none "1_000000" refl
 
 -- a 0 before others
-pub zero_first : None "0_000"
+pub zero_first : NoNumeral "0_000"
 unfolding run value_from well_formed first_group ended_at groups_from number_in number_from number_at
 zero_first = none "0_000" refl
 
-pub zeros_first : None "001_000"
+pub zeros_first : NoNumeral "001_000"
 unfolding run value_from well_formed first_group ended_at groups_from number_in number_from number_at
 zeros_first = none "001_000" refl
 
 -- twenty digits
-pub twenty_digits : None "10_000_000_000_000_000_000"
+pub twenty_digits : NoNumeral "10_000_000_000_000_000_000"
 unfolding run value_from well_formed first_group ended_at groups_from number_in number_from number_at
 twenty_digits = none "10_000_000_000_000_000_000" refl
 
 -- a '-' and then a `_`
-unsigned_none : None "-_100"
+unsigned_none : NoNumeral "-_100"
 unfolding run value_from well_formed first_group ended_at groups_from number_in number_from number_at
 unsigned_none = none "-_100" refl
 

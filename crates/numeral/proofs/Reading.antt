@@ -1,6 +1,6 @@
 -- Laws of the readers' definitions, for the proofs of the code: what the byte at a place says of `numeral_ends` and `run`, how a run is read,
 -- one digit or several at a time. Which answer it has: proofs/Answers.antt.
-use Rattle.std.proofs.Common.{◌≡◌, ℕ, ◌+◌, ◌-◌, ◌*◌, ◌^◌, ◌<◌, ◌≤◌, Bool, true, false, not, ◌&&◌, ◌||◌, eqb, ltb, leb, List, [], ◌∷◌, length, get_or, drop, refl, ap, ◌∙◌, lt_of_lt_of_le, add-zero, add_assoc, mul-le-mul_right, mul_assoc, add-mul, lt_of_not-le, mul-one, add-one, arith, drop_of_length-le, get_or-drop, drop-cons, pow-add, ltb-false, ltb-true, lt-ltb, ne_eqb, eqb-true, le-leb, leb-true}
+use Rattle.std.proofs.Common.{Option, Some, ◌≡◌, ℕ, ◌+◌, ◌-◌, ◌*◌, ◌^◌, ◌<◌, ◌≤◌, Bool, true, false, not, ◌&&◌, ◌||◌, eqb, ltb, leb, List, [], ◌∷◌, length, get_or, drop, refl, ap, ◌∙◌, lt_of_lt_of_le, add-zero, add_assoc, mul-le-mul_right, mul_assoc, add-mul, lt_of_not-le, mul-one, add-one, arith, drop_of_length-le, get_or-drop, drop-cons, pow-add, ltb-false, ltb-true, lt-ltb, ne_eqb, eqb-true, le-leb, leb-true}
 use native.Mathlib.Nat.{pow-le-pow_right}
 use borrow.Author.Tests.{not-true, not-false}
 use Rattle.bits.specs.Choice.{choose}
@@ -11,6 +11,12 @@ use Rattle.numeral.specs.Reading.{is_digit, numeral_ends, run, value_from, at_un
 pub false_and : (t : Bool) → (t && false) ≡ false
 false_and true = refl
 false_and false = refl
+
+-- the parts of an answer
+pub same_parts : {m n k l : ℕ} → ◌≡◌ {A = Option (ℕ × ℕ)} (Some (m, k)) (Some (n, l)) → (m ≡ n) × (k ≡ l)
+same_parts {m} {n} {k} {l} e =
+    let both : ◌≡◌ {A = ℕ × ℕ} (m, k) (n, l) = cc in
+    (ap (λ (p : ℕ × ℕ). p.0) both, ap (λ (p : ℕ × ℕ). p.1) both)
 
 -- ---- one byte
 

@@ -1,15 +1,13 @@
 -- Reading and writing against each other: every number of at most 19 digits, written, is read back as the same number (a larger one has no
 -- numeral), and every number that is read, written again at its place, leaves the line as it was if no `_` stood there.
-use Rattle.std.proofs.Common.{◌≡◌, ℕ, suc, ◌+◌, ◌-◌, ◌^◌, ◌<◌, ◌≤◌, Bool, true, false, List, ◌∷◌, ◌++◌, length, take, drop, ℤ, pos, negsuc, nat_abs, sym, refl, ap, ◌∙◌, inl, append_assoc, arith, length-append, length-drop, take-append-drop, length-take-le, drop_at}
+use Rattle.std.proofs.Common.{Some, ◌≡◌, ℕ, suc, ◌+◌, ◌-◌, ◌^◌, ◌<◌, ◌≤◌, Bool, true, false, List, ◌∷◌, ◌++◌, length, take, drop, ℤ, pos, negsuc, nat_abs, sym, refl, ap, ◌∙◌, inl, append_assoc, arith, length-append, length-drop, take-append-drop, length-take-le, drop_at}
 use Rattle.text.specs.Words.{Stands}
 use Rattle.text.specs.Output.{Put}
 use Rattle.text.proofs.OutputLaws.{put_room, room_put, put_same}
 use Rattle.numeral.specs.Digits.{digits, signed_digits}
 use Rattle.numeral.specs.Groups.{ungrouped, carries_underscore}
 use Rattle.numeral.specs.Numerals.{Numeral, SignedNumeral}
-use Rattle.numeral.specs.Reading.{numeral_ends, number_at, signed_at, negative, integer}
-use Rattle.numeral.specs.declared.read.Number.TheVariants as N
-use Rattle.numeral.specs.declared.read.Signed.TheVariants as S
+use Rattle.numeral.specs.Reading.{numeral_ends, number_at, signed, signed_at, negative, integer}
 use Rattle.numeral.proofs.Digits.{digits_some, digits_most}
 use Rattle.numeral.proofs.GroupLaws.{ungrouped_other, ungrouped_same}
 use Rattle.numeral.proofs.Numerals.{numeral_ungrouped, numeral_most, numeral_read, read_numeral}
@@ -38,16 +36,16 @@ put_here {b} {s} {a} {at} {next} room p =
 
 -- what is written is read back, if neither a digit nor a `_` follows it
 pub written_read : {b a : List ℕ} {at next : ℕ} (n : ℕ) → n < 10 ^ 19 → at + length (digits n) ≤ length b → Put b at (digits n) a next
-    → numeral_ends (drop next a) ≡ true → number_at a at ≡ N.Of n next
+    → numeral_ends (drop next a) ≡ true → number_at a at ≡ Some (n, next)
 written_read {b} {a} {at} {next} n small room p ends =
     numeral_read a at n (digits n) (drop next a) (digits_numeral n small) (put_here {at = at} room p) ends
-    ∙ ap (N.Of n) (sym (put_room {at = at} room p).1)
+    ∙ ap (λ (k : ℕ). Some (n, k)) (sym (put_room {at = at} room p).1)
 
 pub signed_written_read : {b a : List ℕ} {at next : ℕ} (z : ℤ) → nat_abs z < 10 ^ 19 → at + length (signed_digits z) ≤ length b → Put b at (signed_digits z) a next
-    → numeral_ends (drop next a) ≡ true → signed_at a at ≡ S.Of (negative z) (nat_abs z) next
+    → numeral_ends (drop next a) ≡ true → signed_at a at ≡ Some (signed (negative z) (nat_abs z), next)
 signed_written_read {b} {a} {at} {next} z small room p ends =
     signed_read a at z (signed_digits z) (drop next a) (signed_numeral z small) (put_here {at = at} room p) ends
-    ∙ ap (S.Of (negative z) (nat_abs z)) (sym (put_room {at = at} room p).1)
+    ∙ ap (λ (k : ℕ). Some (signed (negative z) (nat_abs z), k)) (sym (put_room {at = at} room p).1)
 
 -- bytes put where they stand leave the line as it was
 stands_put : {Kind : List ℕ → Type 0} {line : List ℕ} {at next : ℕ} (w : Stands Kind line at next) → 1 ≤ length w.bytes → Put line at w.bytes line next
@@ -83,12 +81,12 @@ module _ (line : List ℕ) (at next : ℕ) where
       let same : w.bytes ≡ s = sym (ungrouped_same w.bytes none) ∙ spelt in
       put_same (stands_put w (rw same some)) same
 
-  pub read_written : (n : ℕ) (e : number_at line at ≡ N.Of n next) → carries_underscore (read_numeral line at n next e).bytes ≡ false → Put line at (digits n) line next
+  pub read_written : (n : ℕ) (e : number_at line at ≡ Some (n, next)) → carries_underscore (read_numeral line at n next e).bytes ≡ false → Put line at (digits n) line next
   read_written n e none =
       let w = read_numeral line at n next e in
       again (digits n) (digits_some n) w (numeral_ungrouped n w.bytes w.kind) none
 
-  pub signed_read_written : (b : Bool) (m : ℕ) (e : signed_at line at ≡ S.Of b m next) → carries_underscore (read_signed line at b m next e).bytes ≡ false
+  pub signed_read_written : (b : Bool) (m : ℕ) (e : signed_at line at ≡ Some (signed b m, next)) → carries_underscore (read_signed line at b m next e).bytes ≡ false
       → Put line at (signed_digits (integer b m)) line next
   signed_read_written b m e none =
       let w = read_signed line at b m next e in

@@ -1,5 +1,5 @@
 -- A run of digits that is being read from its first digit on, and the groups after it.
-use Rattle.std.specs.Prelude.{◌≡◌, ℕ, ◌+◌, ◌-◌, ◌*◌, ◌^◌, ◌<◌, ◌≤◌, min, Bool, true, false, List, [], ◌∷◌, length, drop}
+use Rattle.std.specs.Prelude.{◌≡◌, ℕ, ◌+◌, ◌-◌, ◌*◌, ◌^◌, ◌<◌, ◌≤◌, min, Bool, true, false, List, [], ◌∷◌, length, drop, Option, Some, None}
 use Rattle.bits.specs.Choice.{choose}
 use Rattle.numeral.specs.Reading.{is_digit, is_group, at_underscore, numeral_ends, run, value_from}
 
@@ -56,10 +56,10 @@ pub record Counted (line : List ℕ) (value count at : ℕ) : Type 0 where
   pub most : count ≤ 19
   pub inside : at ≤ length line
 
--- The number of the group that the bytes begin with, or 1000 if they begin with none.
-unfoldable pub group_number : List ℕ → ℕ
-group_number [] = 1000
-group_number (u ∷ []) = 1000
-group_number (u ∷ a ∷ []) = 1000
-group_number (u ∷ a ∷ b ∷ []) = 1000
-group_number (u ∷ a ∷ b ∷ c ∷ s) = choose (is_group u a b c) (λ _. value_from 0 (a ∷ b ∷ c ∷ [])) (λ _. 1000)
+-- The number of the group that the bytes begin with, or that they begin with none.
+unfoldable pub group_number : List ℕ → Option ℕ
+group_number [] = None
+group_number (u ∷ []) = None
+group_number (u ∷ a ∷ []) = None
+group_number (u ∷ a ∷ b ∷ []) = None
+group_number (u ∷ a ∷ b ∷ c ∷ s) = choose (is_group u a b c) (λ _. Some (value_from 0 (a ∷ b ∷ c ∷ []))) (λ _. None)

@@ -2,15 +2,16 @@
 use Rattle.std.proofs.Common.{sym, ◌∙◌, arith}
 use Rattle.numeral.proofs.Answers.{first_none, first_long, first_zero, first_some}
 use Rattle.numeral.proofs.read.first_group.Goals as goal
+use Rattle.numeral.proofs.read.first_group.Goals.{then-count-eq0-via-then-count-eq0, then-count-eq0-via-else-count-eq0+then-count-gt3, then-count-eq0-via-else-count-eq0+else-count-gt3+then-line-at-eq48}
 
 pub returns-then-count-eq0 : goal.returns-then-count-eq0
-returns-then-count-eq0 c = sym (first_none c.requires c.if-count-eq0.true)
-
-pub returns-then-count-gt3 : goal.returns-then-count-gt3
-returns-then-count-gt3 c = sym (first_long c.requires (omega (arith, c.if-count-gt3.true)))
-
-pub returns-then-lead-eq48 : goal.returns-then-lead-eq48
-returns-then-lead-eq48 c = sym (first_zero c.requires (omega arith) c.if-count-gt3.false c.if-lead-eq48.true)
+returns-then-count-eq0 c =
+    sym
+    (elim c.then-count-eq0.branch [
+      | then-count-eq0-via-then-count-eq0 w ↦ first_none c.requires w.if-count-eq0.true
+      | then-count-eq0-via-else-count-eq0+then-count-gt3 w ↦ first_long c.requires w.if-count-gt3.true
+      | then-count-eq0-via-else-count-eq0+else-count-gt3+then-line-at-eq48 w ↦ first_zero c.requires (omega arith) w.if-count-gt3.false w.if-line-at-eq48.true
+    ])
 
 pub read_groups-requires : goal.read_groups-requires
 read_groups-requires c =
@@ -20,4 +21,4 @@ read_groups-requires c =
 pub returns : goal.returns
 returns c =
     c.read_groups.ensures
-    ∙ sym (first_some c.requires (omega arith) c.if-count-gt3.false c.if-lead-eq48.false)
+    ∙ sym (first_some c.requires (omega arith) c.if-count-gt3.false c.if-line-at-eq48.false)

@@ -14,5 +14,5 @@ first_group-requires c =
     let on = sym c.numeral_ends.ensures ∙ c.if-numeral_ends.false in
     record { progress = read.progress; on = on; with_underscore = λ h. read.with_underscore h on }
 
-pub returns : goal.returns
-returns c = c.first_group.ensures
+pub returns-else-numeral_ends : goal.returns-else-numeral_ends
+returns-else-numeral_ends c = c.first_group.ensures
