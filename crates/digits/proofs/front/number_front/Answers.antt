@@ -3,37 +3,22 @@ use native.Mathlib.Omega.{arith}
 use Rattle.digits.proofs.FrontLaws.{parts_room, parts_more, parts_stop}
 use Rattle.digits.proofs.front.number_front.Goals as goal
 
-pub returns-then-n-lt100000000 : goal.returns-then-n-lt100000000
-returns-then-n-lt100000000 c = c.eight_front.ensures
+pub returns-in_err-at : goal.returns-in_err-at
+returns-in_err-at c = parts_stop 8 0 c.args.n (omega arith) c.eight_front-then-n-lt10000000000000000.ensures c.in_err-at.was c.from_residual.ensures
 
-pub returns-then-at-eq0 : goal.returns-then-at-eq0
-returns-then-at-eq0 c =
-    let n = c.args.n in
-    parts_stop 8 0 n (omega arith) c.eight_front-at.ensures (omega arith)
-
-pub put_eight-requires : goal.put_eight-requires
-put_eight-requires c =
-    let n = c.args.n in
-    let room = parts_room 8 0 n (omega arith) c.eight_front-at.ensures c.if-at-eq0.false in
-    record { eight_bound = omega arith; at_in_bounds = omega (arith, room) }
+pub put_eight-requires-clause-at_in_bounds : goal.put_eight-requires-clause-at_in_bounds
+put_eight-requires-clause-at_in_bounds c =
+    omega (arith, parts_room 8 0 c.args.n (omega arith) c.eight_front-then-n-lt10000000000000000.ensures c.in_ok-at.was)
 
 pub returns-then-n-lt10000000000000000 : goal.returns-then-n-lt10000000000000000
 returns-then-n-lt10000000000000000 c =
-    let n = c.args.n in
-    parts_more 8 0 n (omega arith) c.eight_front-at.ensures c.if-at-eq0.false c.put_eight.ensures
+    parts_more 8 0 c.args.n (omega arith) c.eight_front-then-n-lt10000000000000000.ensures c.in_ok-at.was c.put_eight.ensures
 
-pub returns-then-at-eq0-2 : goal.returns-then-at-eq0-2
-returns-then-at-eq0-2 c =
-    let n = c.args.n in
-    parts_stop 16 0 n (omega arith) c.four_front-at.ensures (omega arith)
+pub returns-in_err-at-2 : goal.returns-in_err-at-2
+returns-in_err-at-2 c = parts_stop 16 0 c.args.n (omega arith) c.four_front.ensures c.in_err-at-2.was c.from_residual-in_err-at-2.ensures
 
-pub put_sixteen-requires : goal.put_sixteen-requires
-put_sixteen-requires c =
-    let n = c.args.n in
-    let room = parts_room 16 0 n (omega arith) c.four_front-at.ensures c.if-at-eq0-2.false in
-    record { sixteen_bound = omega arith; at_in_bounds = omega (arith, room) }
+pub put_sixteen-requires-clause-at_in_bounds : goal.put_sixteen-requires-clause-at_in_bounds
+put_sixteen-requires-clause-at_in_bounds c = omega (arith, parts_room 16 0 c.args.n (omega arith) c.four_front.ensures c.in_ok-at-2.was)
 
 pub returns : goal.returns
-returns c =
-    let n = c.args.n in
-    parts_more 16 0 n (omega arith) c.four_front-at.ensures c.if-at-eq0-2.false c.put_sixteen.ensures
+returns c = parts_more 16 0 c.args.n (omega arith) c.four_front.ensures c.in_ok-at-2.was c.put_sixteen.ensures
