@@ -14,6 +14,7 @@ use mir.Syntax.{w64}
 use mir.Val.{SFits, to_z, of_z}
 use mir.Facts.{to_z-of_z, to_z_pos}
 use borrow.Author.Tests.{leb-true, leb-false, ltb-true, ltb-false, le-leb, lt-leb, lt-ltb, le-ltb}
+use Rattle.std.specs.Int.{int_max, int_min}
 use Rattle.bits.proofs.Tests.{by_test}
 use Rattle.moment.specs.Moment.{larger_of, smaller_of, floor_half}
 
@@ -165,6 +166,18 @@ max_is a b = by_test (le_z a b) (λ e. rw e (omega ints)) (λ e. rw e (omega int
 pub min_is : (a b : ℤ) → up (smaller_of a b) + (dn a + dn b) ≡ min (up a + dn b) (up b + dn a) + dn (smaller_of a b)
 unfolding smaller_of
 min_is a b = by_test (le_z a b) (λ e. rw e (omega ints)) (λ e. rw e (omega ints))
+
+-- and they are those of the library
+pub maxed : (a b : ℤ) → int_max a b ≡ larger_of a b
+unfolding larger_of
+maxed a b = by_test (lt_z b a) (λ e. rw (e, make_le_z_false a b (omega ints))) (λ e. rw (e, make_le_z_true a b (omega ints)))
+
+pub minned : (a b : ℤ) → int_min a b ≡ smaller_of a b
+unfolding smaller_of
+minned a b = by_test (lt_z b a) (λ e. rw (e, make_le_z_false a b (omega ints))) (λ e. rw (e, make_le_z_true a b (omega ints)))
+
+-- The rules for `grind`: the library's, and what a number is that went through its bits.
+pub ruleset extremes = (maxed, minned, to_z-of_z)
 
 -- the half, rounded down
 pub half : (z : ℤ) → (2 * up (floor_half z) + dn z ≤ up z + 2 * dn (floor_half z)) × (up z + 2 * dn (floor_half z) ≤ 2 * up (floor_half z) + dn z + 1)

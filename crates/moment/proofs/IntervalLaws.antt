@@ -8,7 +8,7 @@ use lib.IntN.{ℤ, pos, negsuc, ◌+ℤ◌}
 use lib.Signed.{le_z, ◌≤ℤ◌, ◌<ℤ◌}
 use Rattle.bits.proofs.Tests.{both}
 use Rattle.moment.specs.declared.Interval.{Interval}
-use Rattle.moment.specs.declared.Moved.TheVariants.{To, Outside}
+use Rattle.std.specs.Prelude.{Some, None}
 use Rattle.moment.specs.Moment.{earliest, latest, in_range, moved_by, larger_of, smaller_of, floor_half}
 use Rattle.moment.proofs.Integers.{ints, make_le_z_true, make_le_z_false, sum, max_is, min_is, half}
 use Rattle.moment.specs.Intervals.{Holds, Share, share_one}
@@ -34,12 +34,12 @@ unfolding in_range
 range_after m h = rw (make_le_z_true earliest m (omega ints), make_le_z_false m latest (omega ints))
 
 -- a move gives the sum of the edge and what it is moved by, if that is in the range
-pub moved_to : (edge by : ℤ) → in_range (edge +ℤ by) ≡ true → moved_by edge by ≡ To (edge +ℤ by)
+pub moved_to : (edge by : ℤ) → in_range (edge +ℤ by) ≡ true → moved_by edge by ≡ Some (edge +ℤ by)
 unfolding moved_by
 moved_to edge by h = rw h
 
--- and else it is outside
-pub moved_outside : (edge by : ℤ) → in_range (edge +ℤ by) ≡ false → moved_by edge by ≡ Outside
+-- and else there is none
+pub moved_outside : (edge by : ℤ) → in_range (edge +ℤ by) ≡ false → moved_by edge by ≡ None
 unfolding moved_by
 moved_outside edge by h = rw h
 

@@ -1,11 +1,9 @@
 -- Intervals of moments: document 01, 'Moments and ticks' and 'The calls'.
-use Rattle.std.specs.Prelude.{Bool, ◌&&◌, ℤ, ◌≤ℤ◌}
+use Rattle.std.specs.Prelude.{Bool, ◌&&◌, ℤ, ◌≤ℤ◌, Option, Some, None}
 use Rattle.std.specs.Int.Signed.{le_z}
 use Rattle.bits.specs.Choice.{choose}
 use Rattle.moment.specs.Moment.{in_range, larger_of, smaller_of}
 use Rattle.moment.specs.declared.Interval.{Interval}
-use Rattle.moment.specs.declared.intervals.Bounds.{Bounds}
-use Rattle.moment.specs.declared.intervals.Bounds.TheVariants.{Within, Outside}
 
 -- The interval of two edges.
 abbrev pub interval : ℤ → ℤ → Interval
@@ -37,8 +35,8 @@ unfoldable pub edges_within : Interval → Bool
 edges_within edges = in_range edges.lower && in_range edges.upper && le_z edges.lower edges.upper
 
 -- The edges, if both lie in the range; and if they are in order too.
-unfoldable pub placed : Interval → Bounds
-placed i = choose (both_in_range i) (λ _. Within i) (λ _. Outside)
+unfoldable pub placed : Interval → Option Interval
+placed i = choose (both_in_range i) (λ _. Some i) (λ _. None)
 
-unfoldable pub bounds_of : Interval → Bounds
-bounds_of i = choose (edges_within i) (λ _. Within i) (λ _. Outside)
+unfoldable pub bounds_of : Interval → Option Interval
+bounds_of i = choose (edges_within i) (λ _. Some i) (λ _. None)

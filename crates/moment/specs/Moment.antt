@@ -1,9 +1,7 @@
 -- Moments and ticks of document 01, in the order of its section 'Moments and ticks'. A moment is an integer (ℤ): a whole
 -- number of nanoseconds from the epoch. What the code holds as an i64 is such an integer here.
-use Rattle.std.specs.Prelude.{Bool, true, false, ◌&&◌, ℕ, ◌+◌, ◌-◌, ◌/◌, ℤ, pos, negsuc, ◌+ℤ◌}
+use Rattle.std.specs.Prelude.{Bool, true, false, ◌&&◌, ℕ, ◌+◌, ◌-◌, ◌/◌, ℤ, pos, negsuc, ◌+ℤ◌, Option, Some, None}
 use Rattle.std.specs.Int.Signed.{le_z}
-use Rattle.moment.specs.declared.Moved.{Moved}
-use Rattle.moment.specs.declared.Moved.TheVariants.{To, Outside}
 
 -- 'from -4000000000000000000 through 4000000000000000000 (the range)'
 abbrev pub earliest : ℤ
@@ -22,12 +20,12 @@ shortest claim = 1000000 - claim
 abbrev pub longest : ℕ → ℕ
 longest claim = 1000000 + claim
 
-pick_moved : Bool → ℤ → Moved
-pick_moved true m = To m
-pick_moved false m = Outside
+pick_moved : Bool → ℤ → Option ℤ
+pick_moved true m = Some m
+pick_moved false m = None
 
 -- The edge `by` nanoseconds on (back, if `by` is negative), or that it would leave the range.
-unfoldable pub moved_by : ℤ → ℤ → Moved
+unfoldable pub moved_by : ℤ → ℤ → Option ℤ
 unfolding pick_moved
 moved_by edge by = pick_moved (in_range (edge +ℤ by)) (edge +ℤ by)
 

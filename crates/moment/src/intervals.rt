@@ -2,54 +2,39 @@
 ghost use Rattle.std.specs.Prelude.{◌≡◌, ◌+ℤ◌};
 ghost use Rattle.moment.specs.Intervals.{interval, share_one, both_in_range, edges_within, placed};
 
-use crate::{Interval, Moved, in_range, larger, move_edge, smaller};
-
-// Two edges that passed a test (both in the range, or in order too), or that they did not.
-#[derive(Clone, Copy)]
-pub enum Bounds {
-    Within(Interval),
-    Outside,
-}
+use crate::{Interval, in_range, move_edge};
 
 // Whether some moment lies in both.
+#[tactic(auto, using(crate::proofs::Integers::extremes), unfolding(crate::specs::Intervals::share_one))]
 pub fn share_a_moment(a: Interval, b: Interval) -> bool
     ensures { result ≡ share_one a b }
 {
-    larger(a.lower, b.lower) <= smaller(a.upper, b.upper)
+    a.lower.max(b.lower) <= a.upper.min(b.upper)
 }
 
 // Whether both edges lie in the range.
+#[tactic(auto, unfolding(crate::specs::Intervals::both_in_range))]
 pub fn both_in_range(edges: Interval) -> bool
     ensures { result ≡ both_in_range edges }
 {
-    if !in_range(edges.lower) {
-        return false;
-    }
-    in_range(edges.upper)
+    in_range(edges.lower) && in_range(edges.upper)
 }
 
 // Both in the range, and the first not above the second.
+#[tactic(auto, unfolding(crate::specs::Intervals::both_in_range, crate::specs::Intervals::edges_within))]
 pub fn edges_within(edges: Interval) -> bool
     ensures { result ≡ edges_within edges }
 {
-    if !in_range(edges.lower) {
-        return false;
-    }
-    if !in_range(edges.upper) {
-        return false;
-    }
-    edges.lower <= edges.upper
+    both_in_range(edges) && edges.lower <= edges.upper
 }
 
 // Each edge moved by its own number of nanoseconds, unless one leaves the range.
-pub fn move_edges(edges: Interval, lower_by: i64, upper_by: i64) -> Bounds
+#[tactic(auto, unfolding(crate::specs::Moment::moved_by, crate::specs::Intervals::placed, crate::specs::Intervals::both_in_range))]
+pub fn move_edges(edges: Interval, lower_by: i64, upper_by: i64) -> Option<Interval>
     ensures { result ≡ placed (interval (edges.lower +ℤ lower_by) (edges.upper +ℤ upper_by)) }
 {
-    let Moved::To(lower) = move_edge(edges.lower, lower_by) else {
-        return Bounds::Outside;
-    };
-    let Moved::To(upper) = move_edge(edges.upper, upper_by) else {
-        return Bounds::Outside;
-    };
-    Bounds::Within(Interval { lower, upper })
+    Some(Interval {
+        lower: move_edge(edges.lower, lower_by)?,
+        upper: move_edge(edges.upper, upper_by)?,
+    })
 }
