@@ -8,21 +8,23 @@ use native.Mathlib.Omega.{arith}
 use lib.IntN.{ℤ, pos, ◌+ℤ◌}
 use lib.ListN.{length}
 use lib.Signed.{◌≤ℤ◌, ◌<ℤ◌}
+use Rattle.std.specs.Prelude.{Result, Ok, Err}
 use Rattle.bits.proofs.Tests.{by_test}
 use Rattle.calendar.specs.declared.Date.{Date}
-use Rattle.calendar.specs.declared.DateResult.{DateResult}
-use Rattle.calendar.specs.declared.MomentResult.{MomentResult}
+use Rattle.refusal.specs.declared.Refusal.{Refusal}
+use Rattle.refusal.specs.declared.Refusal.TheVariants.{NoDate}
+use Rattle.refusal.specs.Refusal.{number_of}
 use Rattle.calendar.specs.Calendar.{exists}
-use Rattle.calendar.specs.Conversion.{date_in, Earlier, moment_of, moment_result, in_years, FallsIn, IsDateOf, Narrows}
+use Rattle.calendar.specs.Conversion.{date_in, six_of, Earlier, moment_of, moment_result, in_years, FallsIn, IsDateOf, Narrows}
 use Rattle.calendar.proofs.ConversionLaws.{date_of_one, there_and_back, later_than}
-use Rattle.boardtime_dates.specs.Calls.{six_of, numbered, MomentCall, DateCall}
+use Rattle.boardtime_dates.specs.Calls.{moment_stored_of, date_stored_of, MomentCall, DateCall}
 
 -- The answer for a date, from whether it exists.
-moment_given : (d : Date) → exists d ≡ true → moment_result d ≡ numbered 0 (moment_of d)
+moment_given : (d : Date) → exists d ≡ true → moment_result d ≡ Ok (moment_of d)
 unfolding moment_result
 moment_given d e = rw e
 
-moment_refused : (d : Date) → exists d ≡ false → moment_result d ≡ numbered 11 (pos 0)
+moment_refused : (d : Date) → exists d ≡ false → moment_result d ≡ Err NoDate
 unfolding moment_result
 moment_refused d e = rw e
 
@@ -33,43 +35,39 @@ narrow_moment {wide} {narrow} n =
     (λ e. ap moment_result (n.equal e))
     (λ e. moment_refused narrow (n.exists_alike ∙ e) ∙ sym (moment_refused wide e))
 
--- What is stored and returned is `moment_of`'s answer for the date that `date_from` made of the six numbers. The moment was stored as bits.
-pub moment_called : {given : List ℕ} {narrow : Date} {a : MomentResult} {bits : ℤ} → Narrows (date_in given) narrow → a ≡ moment_result narrow → bits ≡ a.moment → MomentCall given a.number bits
-moment_called n e b = record { answer = rw b (e ∙ narrow_moment n) }
-
--- What is stored and returned is `date_of`'s answer. The moment reached it as bits.
-pub date_called : {m bits : ℤ} {d : DateResult} → bits ≡ m → IsDateOf bits d → DateCall m d.number (six_of d.date)
-date_called {m} {bits} {d} e h =
-    record { dated = d; is_date = subst (λ z. IsDateOf z d) e h; returned = refl; stored = refl }
+-- What is stored and returned is `moment_of`'s answer for the date that `date_from` made of the six numbers.
+pub moment_called : {given : List ℕ} {narrow : Date} {a : Result ℤ Refusal} {r : ℕ} {after : ℤ} → Narrows (date_in given) narrow → a ≡ moment_result narrow
+    → r ≡ number_of a → after ≡ moment_stored_of a → MomentCall given r after
+moment_called n e q s = let k = e ∙ narrow_moment n in record { returned = q ∙ ap number_of k; stored = s ∙ ap moment_stored_of k }
 
 -- Of a date that exists the moment is stored, and of any other 0.
 pub moment_stored : {given : List ℕ} {r : ℕ} {m : ℤ} → MomentCall given r m → exists (date_in given) ≡ true → (r ≡ 0) × (m ≡ moment_of (date_in given))
 moment_stored {given} c e =
-    let k = c.answer ∙ moment_given (date_in given) e in
-    (ap (λ (a : MomentResult). a.number) k, ap (λ (a : MomentResult). a.moment) k)
+    let k = moment_given (date_in given) e in
+    (c.returned ∙ ap number_of k, c.stored ∙ ap moment_stored_of k)
 
 pub moment_none : {given : List ℕ} {r : ℕ} {m : ℤ} → MomentCall given r m → exists (date_in given) ≡ false → (r ≡ 11) × (m ≡ pos 0)
 moment_none {given} c e =
-    let k = c.answer ∙ moment_refused (date_in given) e in
-    (ap (λ (a : MomentResult). a.number) k, ap (λ (a : MomentResult). a.moment) k)
+    let k = moment_refused (date_in given) e in
+    (c.returned ∙ ap number_of k, c.stored ∙ ap moment_stored_of k)
 
 -- Of a moment of those years the date is stored, and of any other six zeros.
 pub date_stored : {m : ℤ} {r : ℕ} {after : List ℕ} → DateCall m r after → in_years m ≡ true → (r ≡ 0) × (exists (date_in after) ≡ true) × FallsIn m (date_in after)
 date_stored {m} c e =
-    let f = c.is_date.found e in
-    let k = ap date_in c.stored in
-    (c.returned ∙ f.0, ap exists k ∙ f.1, subst (λ d. FallsIn m d) (sym k) f.2)
+    let (d, is, there, falls) = c.is_date.found e in
+    let k = ap date_in (c.stored ∙ ap date_stored_of is) in
+    (c.returned ∙ ap number_of is, ap exists k ∙ there, subst (λ d. FallsIn m d) (sym k) falls)
 
 pub date_none : {m : ℤ} {r : ℕ} {after : List ℕ} → DateCall m r after → in_years m ≡ false → (r ≡ 11) × (after ≡ 0 ∷ 0 ∷ 0 ∷ 0 ∷ 0 ∷ 0 ∷ [])
 date_none c e =
     let k = c.is_date.refused e in
-    (c.returned ∙ ap (λ (a : DateResult). a.number) k, c.stored ∙ ap (λ (a : DateResult). six_of a.date) k)
+    (c.returned ∙ ap number_of k, c.stored ∙ ap date_stored_of k)
 
 -- The contract of the second call leaves one answer, as that of the first does.
 pub one_answer : {m : ℤ} {r s : ℕ} {a b : List ℕ} → DateCall m r a → DateCall m s b → (r ≡ s) × (a ≡ b)
 one_answer c d =
     let k = date_of_one c.is_date d.is_date in
-    (c.returned ∙ ap (λ (x : DateResult). x.number) k ∙ sym d.returned, c.stored ∙ ap (λ (x : DateResult). six_of x.date) k ∙ sym d.stored)
+    (c.returned ∙ ap number_of k ∙ sym d.returned, c.stored ∙ ap date_stored_of k ∙ sym d.stored)
 
 -- The laws of the order. No number but 0 and 11 is returned.
 pub moment_numbers : {given : List ℕ} {r : ℕ} {m : ℤ} → MomentCall given r m → (r ≡ 0) ⊎ (r ≡ 11)
@@ -104,7 +102,7 @@ pub date_there_and_back : {given after : List ℕ} {r s : ℕ} {m : ℤ} → len
 date_there_and_back {given} w e c d =
     let p = moment_stored c e in
     let k = there_and_back (date_in given) d.dated e (subst (λ z. IsDateOf z d.dated) p.1 d.is_date) in
-    (p.0, d.returned ∙ ap (λ (a : DateResult). a.number) k, d.stored ∙ ap (λ (a : DateResult). six_of a.date) k ∙ six_again given w)
+    (p.0, d.returned ∙ ap number_of k, d.stored ∙ ap date_stored_of k ∙ six_again given w)
 
 -- Moment to date to moment: a moment that has a date comes back as the beginning of its second, at or before it.
 pub moment_there_and_back : {after : List ℕ} {r s : ℕ} {m n : ℤ} → in_years m ≡ true → DateCall m r after → MomentCall after s n → (r ≡ 0) × (s ≡ 0) × (n ≤ℤ m) × (m <ℤ (n +ℤ pos 1000000000))

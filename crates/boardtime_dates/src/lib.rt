@@ -13,11 +13,16 @@ use calendar::wide::date_from;
 pub extern "C" fn boardtime_moment_of(date: &[u64; 6], moment: &mut i64) -> u8
     ensures { MomentCall date.now result moment.new }
 {
-    let given = date_from(date[0], date[1], date[2], date[3], date[4], date[5]);
-    let found = moment_of(given);
-    let begins = found.moment;
-    *moment = begins;
-    found.number
+    match moment_of(date_from(date)) {
+        Ok(begins) => {
+            *moment = begins;
+            0
+        }
+        Err(refusal) => {
+            *moment = 0;
+            refusal.number()
+        }
+    }
 }
 
 // Stores the six numbers of the date in whose second a moment falls, and returns 0. For a moment outside the years 1900 through 2099, stores six
@@ -26,15 +31,14 @@ pub extern "C" fn boardtime_moment_of(date: &[u64; 6], moment: &mut i64) -> u8
 pub extern "C" fn boardtime_date_of(moment: i64, date: &mut [u64; 6]) -> u8
     ensures { DateCall moment result date.new }
 {
-    let dated = date_of(moment);
-    let d = dated.date;
-    *date = [
-        d.year as u64,
-        d.month as u64,
-        d.day as u64,
-        d.hour as u64,
-        d.minute as u64,
-        d.second as u64,
-    ];
-    dated.number
+    match date_of(moment) {
+        Ok(found) => {
+            *date = found.into();
+            0
+        }
+        Err(refusal) => {
+            *date = [0; 6];
+            refusal.number()
+        }
+    }
 }

@@ -12,7 +12,8 @@ use Rattle.moment.specs.Moment.{in_range}
 use Rattle.moment.proofs.Integers.{ints, sum}
 use Rattle.moment.proofs.IntervalLaws.{range_made}
 use Rattle.calendar.specs.declared.Date.{Date}
-use Rattle.calendar.specs.declared.DateResult.{DateResult}
+use Rattle.std.specs.Prelude.{Result, Ok}
+use Rattle.refusal.specs.declared.Refusal.{Refusal}
 use Rattle.calendar.specs.Calendar.{exists}
 use Rattle.calendar.specs.Conversion.{epoch, moment_of, FallsIn, in_years, IsDateOf, Earlier}
 use Rattle.calendar.proofs.YearLaws.{years_end}
@@ -71,26 +72,21 @@ has_date m = (λ e. some_date e, λ h. date_within h.1 h.2)
 pub own_second : (d : Date) → FallsIn (moment_of d) d
 own_second d = omega (ints, sum (moment_of d) (pos 1000000000))
 
-same_dated : {r s : DateResult} → r.number ≡ s.number → r.date ≡ s.date → r ≡ s
-same_dated {r} {s} n d =
-    let k : ◌≡◌ {A = DateResult} (record { number = r.number; date = r.date }) (record { number = s.number; date = s.date }) = cc in
-    k
-
 -- the contract of `date_of` leaves one answer
-pub date_of_one : {m : ℤ} {r s : DateResult} → IsDateOf m r → IsDateOf m s → r ≡ s
+pub date_of_one : {m : ℤ} {r s : Result Date Refusal} → IsDateOf m r → IsDateOf m s → r ≡ s
 date_of_one {m} {r} {s} a b =
     by_test (in_years m)
     (λ e.
-    let f = a.found e in
-    let g = b.found e in
-    same_dated (f.0 ∙ sym g.0) (one_date f.1 g.1 f.2 g.2))
+    let (d, is, p, f) = a.found e in
+    let (k, js, q, g) = b.found e in
+    is ∙ ap Ok (one_date p q f g) ∙ sym js)
     (λ e. a.refused e ∙ sym (b.refused e))
 
 -- date to moment to date is unchanged
-pub there_and_back : (d : Date) (r : DateResult) → exists d ≡ true → IsDateOf (moment_of d) r → r ≡ record { number = 0; date = d }
+pub there_and_back : (d : Date) (r : Result Date Refusal) → exists d ≡ true → IsDateOf (moment_of d) r → r ≡ Ok d
 there_and_back d r p a =
-    let f = a.found (date_within p (own_second d)) in
-    same_dated f.0 (one_date f.1 p f.2 (own_second d))
+    let (k, is, q, f) = a.found (date_within p (own_second d)) in
+    is ∙ ap Ok (one_date q p f (own_second d))
 
 -- a date's moment is in the range of document 01
 pub moment_fits : (d : Date) → exists d ≡ true → in_range (moment_of d) ≡ true

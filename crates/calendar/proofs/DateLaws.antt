@@ -204,3 +204,8 @@ first_second = refl
 pub last_second : second_number (date 2099 12 31 23 59 59) ≡ 6311433599
 unfolding second_number day_number days_of_years days_of_months year_length month_lengths leap
 last_second = refl
+
+-- What the proofs of the conversions rest on.
+pub ruleset second_steps = (parts, day_most, years_end)
+
+pub ruleset date_steps = (year_holds, month_holds, at_both, years_end)

@@ -1,29 +1,21 @@
 -- Moments as integers: the second in which one falls, the moment of a date by the seconds before it, and the edges of the two hundred years.
 use mathlib.Core.Path.{◌≡◌, refl}
 use mathlib.Core.Bool.{true, false}
-use Prim.Native.Nat.{ℕ, ◌+◌, ◌-◌, ◌*◌, ◌≤◌, ◌<◌, ◌^◌}
+use Prim.Native.Nat.{ℕ, ◌+◌, ◌-◌, ◌*◌, ◌≤◌, ◌<◌}
 use native.Mathlib.Omega.{arith}
-use borrow.Author.Tests.{ltb-true}
 use lib.IntN.{ℤ, pos, negsuc, ◌+ℤ◌, ◌-ℤ◌, ◌*ℤ◌}
-use lib.Signed.{le_z, lt_z, ◌≤ℤ◌, ◌<ℤ◌}
+use lib.Signed.{le_z, ◌≤ℤ◌, ◌<ℤ◌}
 use mir.Syntax.{w64}
-use mir.Val.{SFits, of_z, to_z}
+use mir.Val.{SFits}
 use mir.Facts.{to_z-of_z}
 use Rattle.bits.proofs.Tests.{both, join, clash}
 use Rattle.moment.proofs.Integers.{ints, up, dn, sum, dif, mul, make_le_z_true, make_le_z_false}
+use Rattle.std.specs.Prelude.{Ok}
 use Rattle.calendar.specs.declared.Date.{Date}
 use Rattle.calendar.specs.Calendar.{exists, second_number}
 use Rattle.calendar.specs.Conversion.{date, moment_of, floor_second, FallsIn, first_moment, last_moment, in_years, undated, IsDateOf}
-use Rattle.calendar.proofs.DateLaws.{epoch_second, first_second, last_second}
-
--- what the machine's test of a moment against 0 says of it
-pub below_zero : (z : ℤ) → SFits w64 z → lt_z (to_z w64 (of_z w64 z)) (pos 0) ≡ true → (n : ℕ) × (z ≡ negsuc n) × (n < 2 ^ 63)
-below_zero (pos n) f t = absurd (omega (arith, ltb-true n 0 (rw (to_z-of_z f) at t)))
-below_zero (negsuc n) f t = (n, refl, f.sfits)
-
-pub from_zero : (z : ℤ) → SFits w64 z → lt_z (to_z w64 (of_z w64 z)) (pos 0) ≡ false → (n : ℕ) × (z ≡ pos n) × (n < 2 ^ 63)
-from_zero (pos n) f t = (n, refl, f.sfits)
-from_zero (negsuc n) f t = absurd (let b : true ≡ false = rw (to_z-of_z f) at t in let z : ◌≡◌ {A = ℕ} 0 1 = cc in omega arith)
+use Rattle.calendar.proofs.YearLaws.{years_end}
+use Rattle.calendar.proofs.DateLaws.{parts, second_most, epoch_second, first_second, last_second}
 
 -- the whole seconds of a moment, rounded toward minus infinity
 pub floor : (z : ℤ) → (up (floor_second z) * 1000000000 + dn z ≤ up z + dn (floor_second z) * 1000000000) × (up z + dn (floor_second z) * 1000000000 < up (floor_second z) * 1000000000 + dn z + 1000000000)
@@ -88,5 +80,14 @@ falls_in m d e q =
 pub none_is : {m : ℤ} → in_years m ≡ false → IsDateOf m undated
 none_is e = record { found = λ f. absurd (clash f e); refused = λ f. refl }
 
-pub one_is : {m : ℤ} {d : Date} → in_years m ≡ true → exists d ≡ true → second_number d ≡ second_of m → IsDateOf m (record { number = 0; date = d })
-one_is {m} {d} e h q = record { found = λ f. (refl, h, falls_in m d e q); refused = λ f. absurd (clash e f) }
+pub one_is : {m : ℤ} {d : Date} → in_years m ≡ true → exists d ≡ true → second_number d ≡ second_of m → IsDateOf m (Ok d)
+one_is {m} {d} e h q = record { found = λ f. (d, refl, h, falls_in m d e q); refused = λ f. absurd (clash e f) }
+
+-- the seconds of a date that exists are few
+pub few : (d : Date) → exists d ≡ true → second_number d < 73049 * 86400
+few d there = second_most d (parts d there)
+
+-- What the proofs of the two conversions rest on.
+pub ruleset moment_steps = (few, moment_is, to_z-of_z)
+
+pub ruleset date_steps = (years_before, years_after, years_made, second_is, second_fits, second_below, none_is, one_is, years_end, to_z-of_z)

@@ -160,3 +160,8 @@ months_few y n d h l before =
     let more = ltb-false n 12 e in
     let all : n ≡ 12 = omega arith in
     absurd (omega (arith, ap (days_of_months y) all, months_all y)))
+
+-- What the proofs of the months' functions rest on.
+pub ruleset month_rules = (month_thirty, month_leap, month_common, month_long)
+
+pub ruleset months_rules = (months_early, months_leap, months_common)

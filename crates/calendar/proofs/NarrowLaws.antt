@@ -1,8 +1,11 @@
 -- Dates whose numbers were cut to the greatest of their fields.
 use mathlib.Core.Path.{◌≡◌, sym, ◌∙◌, ap}
 use mathlib.Core.Bool.{true}
-use Prim.Native.Nat.{min}
+use mathlib.Core.Logic.{◌⊎◌, inl, inr}
+use Prim.Native.Nat.{ℕ, ◌<◌, ◌≤◌, min}
 use native.Mathlib.Omega.{arith}
+use Rattle.std.specs.Prelude.{Result, Ok, Err}
+use Rattle.std.specs.Result.{OkIff, result_unwrap_or}
 use Rattle.bits.proofs.Tests.{by_test}
 use Rattle.calendar.specs.declared.Date.{Date}
 use Rattle.calendar.specs.Calendar.{exists}
@@ -18,6 +21,11 @@ pub record Cut (wide narrow : Date) : Type 0 where
   pub hour : narrow.hour ≡ min wide.hour 255
   pub minute : narrow.minute ≡ min wide.minute 255
   pub second : narrow.second ≡ min wide.second 255
+
+-- what a conversion gives that falls back on another number
+pub cut : {E : Type 0} (r : Result ℕ E) (n w top x : ℕ) → OkIff r (n < w) n → x ≡ result_unwrap_or r top → ((n < w) × (x ≡ n)) ⊎ ((w ≤ n) × (x ≡ top))
+cut (Ok y) n w top x h e = inl (omega (arith, h, e))
+cut (Err y) n w top x h e = inr (omega (arith, h, e))
 
 -- if either exists, nothing was cut
 wide_whole : {wide narrow : Date} → Cut wide narrow → exists wide ≡ true → narrow ≡ wide

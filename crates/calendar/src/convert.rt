@@ -1,15 +1,14 @@
 // Dates to moments and moments to dates. Neither writes a line; each refuses with 11 alone.
 ghost use Rattle.std.specs.Prelude.{◌≡◌, true, pos, ◌<◌, ◌*◌};
 ghost use Rattle.calendar.specs.Calendar.{day_exists, time_exists, exists, days_of_years, second_number};
-ghost use Rattle.calendar.specs.Conversion.{moment_result, floor_second, undated, IsDateOf};
+ghost use Rattle.calendar.specs.Conversion.{moment_result, floor_second, IsDateOf};
 
+use crate::Date;
 use crate::months::{days_of_months, month_length, months_before};
 use crate::years::{FIRST_YEAR, days_of_years, years_before};
-use crate::{Date, DateResult, MomentResult};
+use refusal::Refusal;
 
 const LAST_YEAR: u32 = 2099;
-
-const NO_DATE: u8 = 11;
 
 const SECOND_NANOSECONDS: i64 = 1000000000;
 
@@ -24,50 +23,33 @@ const FIRST_MOMENT: i64 = -3155673600000000000;
 const LAST_MOMENT: i64 = 3155759999999999999;
 
 // Whether the year is one of the two hundred, and has the month, and the month has the day.
+#[tactic(auto, unfolding(crate::specs::Calendar::day_exists))]
 fn day_exists(year: u32, month: u32, day: u32) -> bool
     ensures { result ≡ day_exists year month day }
 {
-    if year < FIRST_YEAR {
-        return false;
-    }
-    if LAST_YEAR < year {
-        return false;
-    }
-    if month < 1 {
-        return false;
-    }
-    if 12 < month {
-        return false;
-    }
-    if day < 1 {
-        return false;
-    }
-    day <= month_length(year, month)
+    (FIRST_YEAR..=LAST_YEAR).contains(&year)
+        && (1..=12).contains(&month)
+        && (1..=month_length(year, month)).contains(&day)
 }
 
 // There is no leap second: a minute ends with its second 59.
+#[tactic(auto, unfolding(crate::specs::Calendar::time_exists))]
 fn time_exists(hour: u8, minute: u8, second: u8) -> bool
     ensures { result ≡ time_exists hour minute second }
 {
-    if 24 <= hour {
-        return false;
-    }
-    if 60 <= minute {
-        return false;
-    }
-    second < 60
+    hour < 24 && minute < 60 && second < 60
 }
 
+#[tactic(auto, unfolding(crate::specs::Calendar::exists))]
 pub fn date_exists(date: Date) -> bool
     ensures { result ≡ exists date }
 {
-    if !day_exists(date.year as u32, date.month as u32, date.day as u32) {
-        return false;
-    }
-    time_exists(date.hour, date.minute, date.second)
+    day_exists(date.year as u32, date.month as u32, date.day as u32)
+        && time_exists(date.hour, date.minute, date.second)
 }
 
 // The seconds from 1900-01-01T00:00:00 to a date.
+#[tactic(auto, using(crate::proofs::DateLaws::second_steps), unfolding(crate::specs::Calendar::second_number, crate::specs::Calendar::day_number))]
 fn second_number(date: Date) -> u64
     requires { exists date ≡ true }
     ensures { result ≡ second_number date }
@@ -83,34 +65,27 @@ fn second_number(date: Date) -> u64
 }
 
 // The moment at which a date's second begins.
-pub fn moment_of(date: Date) -> MomentResult
+#[tactic(auto, using(crate::proofs::MomentLaws::moment_steps), unfolding(crate::specs::Conversion::moment_result))]
+pub fn moment_of(date: Date) -> Result<i64, Refusal>
     ensures { result ≡ moment_result date }
 {
     if !date_exists(date) {
-        return MomentResult {
-            number: NO_DATE,
-            moment: 0,
-        };
+        return Err(Refusal::NoDate);
     }
     let seconds = second_number(date) as i64;
-    MomentResult {
-        number: 0,
-        moment: (seconds - SECONDS_TO_2000) * SECOND_NANOSECONDS,
-    }
+    Ok((seconds - SECONDS_TO_2000) * SECOND_NANOSECONDS)
 }
 
-// The second in which a moment falls, counted from moment 0: the one that began at or before it. Division rounds toward zero, so a moment
-// before 2000 is counted from the last nanosecond of 1999 back.
+// The second in which a moment falls, counted from moment 0: the one that began at or before it.
+#[tactic(auto, unfolding(crate::specs::Conversion::floor_second))]
 fn second_of(moment: i64) -> i64
     ensures { result ≡ floor_second moment }
 {
-    if moment < 0 {
-        return -1 - (-1 - moment) / SECOND_NANOSECONDS;
-    }
-    moment / SECOND_NANOSECONDS
+    moment.div_euclid(SECOND_NANOSECONDS)
 }
 
 // The date that is so many seconds after 1900-01-01T00:00:00.
+#[tactic(auto, using(crate::proofs::DateLaws::date_steps))]
 fn date_at(second: u64) -> Date
     requires { second < days_of_years 200 * 86400 }
     ensures { (exists result ≡ true) × (second_number result ≡ second) }
@@ -131,36 +106,14 @@ fn date_at(second: u64) -> Date
     }
 }
 
-fn no_date() -> DateResult
-    ensures { result ≡ undated }
-{
-    let date = Date {
-        year: 0,
-        month: 0,
-        day: 0,
-        hour: 0,
-        minute: 0,
-        second: 0,
-    };
-    DateResult {
-        number: NO_DATE,
-        date,
-    }
-}
-
 // The date in whose second a moment falls.
-pub fn date_of(moment: i64) -> DateResult
+#[tactic(auto, using(crate::proofs::MomentLaws::date_steps))]
+pub fn date_of(moment: i64) -> Result<Date, Refusal>
     ensures { IsDateOf moment result }
 {
-    if moment < FIRST_MOMENT {
-        return no_date();
-    }
-    if LAST_MOMENT < moment {
-        return no_date();
+    if !(FIRST_MOMENT..=LAST_MOMENT).contains(&moment) {
+        return Err(Refusal::NoDate);
     }
     let second = (second_of(moment) + SECONDS_TO_2000) as u64;
-    DateResult {
-        number: 0,
-        date: date_at(second),
-    }
+    Ok(date_at(second))
 }

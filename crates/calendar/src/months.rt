@@ -5,6 +5,7 @@ ghost use Rattle.calendar.specs.Calendar.{year_length, month_length, days_of_mon
 use crate::years::is_leap;
 
 // Only February's length depends on the year.
+#[tactic(auto, using(crate::proofs::MonthLaws::month_rules))]
 pub(crate) fn month_length(year: u32, month: u32) -> u32
     requires le_month { 1 ≤ month }
     requires month_bound { month ≤ 12 }
@@ -18,6 +19,7 @@ pub(crate) fn month_length(year: u32, month: u32) -> u32
 }
 
 // The days of the first n months of the year: by 367 twelfths of a day a month, less what February lacks.
+#[tactic(auto, using(crate::proofs::MonthLaws::months_rules))]
 pub(crate) fn days_of_months(year: u32, n: u32) -> u32
     requires { n ≤ 12 }
     ensures { result ≡ days_of_months year n }

@@ -4,19 +4,15 @@ ghost use Rattle.calendar.specs.Calendar.{leap, days_of_years};
 
 pub(crate) const FIRST_YEAR: u32 = 1900;
 
+#[tactic(auto, unfolding(crate::specs::Calendar::leap))]
 pub(crate) fn is_leap(year: u32) -> bool
     ensures { result ≡ leap year }
 {
-    if year % 400 == 0 {
-        return true;
-    }
-    if year % 100 == 0 {
-        return false;
-    }
-    year % 4 == 0
+    year % 4 == 0 && year % 100 != 0 || year % 400 == 0
 }
 
 // The days of the n years from 1900 on. Of the years that 4 divides, from 1900 through 2099, only 1900 is not leap.
+#[tactic(auto, using(crate::proofs::YearLaws::years_closed))]
 pub(crate) fn days_of_years(n: u32) -> u32
     requires { n ≤ 200 }
     ensures { result ≡ days_of_years n }
