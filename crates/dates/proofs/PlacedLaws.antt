@@ -1,6 +1,6 @@
 -- Bytes put where there is room for them, one after the other.
 use mathlib.Core.Path.{◌≡◌, ap, ◌∙◌}
-use mathlib.Core.List.{List, [], ◌∷◌, ◌++◌}
+use mathlib.Core.List.{List, [], ◌∷◌, ◌++◌, append_assoc}
 use Prim.Native.Nat.{ℕ, ◌+◌, ◌≤◌}
 use native.Mathlib.Omega.{arith}
 use lib.ListN.{length, length-append}
@@ -9,7 +9,7 @@ use Rattle.text.proofs.OutputLaws.{put_room, put_length, put_both}
 use Rattle.digits.specs.Width.{last_digits}
 use Rattle.digits.proofs.WidthLaws.{length_last}
 use Rattle.calendar.specs.declared.Date.{Date}
-use Rattle.dates.specs.DateText.{day_text, time_text, date_text}
+use Rattle.dates.specs.DateText.{fields_text, day_text, time_text, date_text}
 
 -- k bytes were put, and the place after them is k further on
 pub record Placed (b : List ℕ) (at : ℕ) (s a : List ℕ) (m k : ℕ) : Type 0 where
@@ -35,40 +35,34 @@ placed_both {b} {s} {a} {t} {c} {at} {m} {e} {j} {k} p q h =
       size = omega (arith, length-append s t, p.size, q.size);
     }
 
--- the parts of a date have ten and eight bytes, and the date nineteen
-pub day_length : (year month day : ℕ) → length (day_text year month day) ≡ 10
-unfolding day_text
-day_length y m d =
-    let a = last_digits 4 y in
-    let b = last_digits 2 m in
-    let dash : List ℕ = 45 ∷ [] in
+-- how many bytes the parts of a date have, and the date
+pub fields_length : (separator second third : ℕ) → length (fields_text separator second third) ≡ 6
+unfolding fields_text
+fields_length s m d =
+    let mark : List ℕ = s ∷ [] in
     omega (
       arith,
-      length-append (a ++ dash ++ b ++ dash) (last_digits 2 d),
-      length-append (a ++ dash ++ b) dash,
-      length-append (a ++ dash) b,
-      length-append a dash,
-      length_last 4 y,
+      length-append (mark ++ last_digits 2 m ++ mark) (last_digits 2 d),
+      length-append (mark ++ last_digits 2 m) mark,
+      length-append mark (last_digits 2 m),
       length_last 2 m,
       length_last 2 d,
     )
 
+-- a day and a time by their first fields and the others
+pub day_fields : (year month day : ℕ) → day_text year month day ≡ last_digits 4 year ++ fields_text 45 month day
+unfolding day_text fields_text
+day_fields y m d = simp append_assoc
+
+pub time_fields : (hour minute second : ℕ) → time_text hour minute second ≡ last_digits 2 hour ++ fields_text 58 minute second
+unfolding time_text fields_text
+time_fields h m s = simp append_assoc
+
+pub day_length : (year month day : ℕ) → length (day_text year month day) ≡ 10
+day_length y m d = rw (day_fields y m d, length-append, length_last 4 y, fields_length 45 m d)
+
 pub time_length : (hour minute second : ℕ) → length (time_text hour minute second) ≡ 8
-unfolding time_text
-time_length h m s =
-    let a = last_digits 2 h in
-    let b = last_digits 2 m in
-    let colon : List ℕ = 58 ∷ [] in
-    omega (
-      arith,
-      length-append (a ++ colon ++ b ++ colon) (last_digits 2 s),
-      length-append (a ++ colon ++ b) colon,
-      length-append (a ++ colon) b,
-      length-append a colon,
-      length_last 2 h,
-      length_last 2 m,
-      length_last 2 s,
-    )
+time_length h m s = rw (time_fields h m s, length-append, length_last 2 h, fields_length 58 m s)
 
 pub date_length : (d : Date) → length (date_text d) ≡ 19
 unfolding date_text

@@ -1,8 +1,12 @@
 -- How a date is written: document 02, order 3.
-use Rattle.std.specs.Prelude.{◌≡◌, List, ◌++◌, ℕ, ◌<◌}
+use Rattle.std.specs.Prelude.{◌≡◌, List, [], ◌∷◌, ◌++◌, ℕ, ◌<◌}
 use Rattle.text.specs.Words.{bytes}
 use Rattle.digits.specs.Width.{last_digits}
 use Rattle.calendar.specs.declared.Date.{Date}
+
+-- -01-01 and :00:00, the second and the third field of a day and of a time, each behind the byte that separates it from the one before
+unfoldable pub fields_text : ℕ → ℕ → ℕ → List ℕ
+fields_text separator second third = (separator ∷ []) ++ last_digits 2 second ++ (separator ∷ []) ++ last_digits 2 third
 
 -- 2000-01-01 and 00:00:00, with every field at full width
 unfoldable pub day_text : ℕ → ℕ → ℕ → List ℕ
