@@ -1,11 +1,14 @@
 -- The rules on edges: document 01, 'The calls', from MM-1, MM-2, IM-1 and IM-2 of the report, and document 02, order 5: a frame may arrive, or a
 -- reading leave, almost a whole tick after the last count; and order 7: frames that never take less than a known time. A keeper's edges are those
 -- at its last tick. All numbers are integers here.
-use Rattle.std.specs.Prelude.{Bool, not, ℕ, ◌+◌, ◌*◌, ℤ, pos, ◌+ℤ◌, ◌-ℤ◌}
+use Rattle.std.specs.Prelude.{Bool, not, eqb, ℕ, ◌+◌, ◌*◌, ℤ, pos, ◌+ℤ◌, ◌-ℤ◌, Result, Ok, Err}
 use Rattle.std.specs.Int.Signed.{le_z}
+use Rattle.bits.specs.Choice.{choose}
 use Rattle.moment.specs.Moment.{shortest, longest, larger_of, smaller_of, floor_half}
 use Rattle.moment.specs.Intervals.{interval, share_one}
 use Rattle.moment.specs.declared.Interval.{Interval}
+use Rattle.refusal.specs.declared.Refusal.{Refusal}
+use Rattle.refusal.specs.declared.Refusal.TheVariants.{OutsideLimits}
 use Rattle.rules.specs.declared.Rule.{Rule}
 use Rattle.rules.specs.declared.Rule.TheVariants.{Im, Mm}
 
@@ -13,6 +16,11 @@ use Rattle.rules.specs.declared.Rule.TheVariants.{Im, Mm}
 abbrev pub rule_number : Rule → ℕ
 rule_number Im = 0
 rule_number Mm = 1
+
+-- The rule that has a number, or 2 where none has it.
+abbrev pub rule_numbered : ℕ → Result Rule Refusal
+rule_numbered n =
+    choose (eqb n (rule_number Im)) (λ _. Ok Im) (λ _. choose (eqb n (rule_number Mm)) (λ _. Ok Mm) (λ _. Err OutsideLimits))
 
 -- 'Pass of n adds n times the shortest tick to the lower edge, n times the longest to the upper' (MM-1 and IM-1)
 unfoldable pub widened : ℕ → ℕ → Interval → Interval

@@ -4,11 +4,12 @@ ghost use Rattle.moment.specs.Intervals.{edges_within, placed};
 ghost use Rattle.rules.specs.Rules.{widened, longest_wait, bracket, narrowed, outward, no_wider, adopted, told, centre, error_of};
 ghost use Rattle.rules.specs.Spans.{Span};
 
-use moment::intervals::{Bounds, move_edges};
-use moment::{Interval, floor_half, larger, longest_span, shortest_span, smaller};
+use moment::intervals::move_edges;
+use moment::{Interval, floor_half, longest_span, shortest_span};
 
 // Pass: the lower edge gains the shortest ticks and the upper the longest.
-pub fn widen(claim: u16, ticks: u32, edges: Interval) -> Bounds
+#[tactic(auto, unfolding(crate::specs::Rules::widened))]
+pub fn widen(claim: u16, ticks: u32, edges: Interval) -> Option<Interval>
     ensures { result ≡ placed (widened claim ticks edges) }
 {
     let lower_by = shortest_span(ticks, claim);
@@ -18,6 +19,7 @@ pub fn widen(claim: u16, ticks: u32, edges: Interval) -> Bounds
 
 // The bracket of a reply: its leading edge gains the wait, and its trailing edge goes back by the tick that may have begun since the last count.
 // What the two frames took at the least, out to the peer and back, narrows it.
+#[tactic(auto, unfolding(crate::specs::Rules::bracket, moment::specs::Intervals::edges_within, moment::specs::Moment::in_range))]
 pub fn bracket_of(claim: u16, w: u32, out: u32, back: u32, reply: Interval) -> Interval
     requires w_le_longest_wait { w ≤ longest_wait }
     requires reply_value { edges_within reply ≡ true }
@@ -30,16 +32,18 @@ pub fn bracket_of(claim: u16, w: u32, out: u32, back: u32, reply: Interval) -> I
 }
 
 // Rule im: the larger lower and the smaller upper edge.
+#[tactic(auto, using(moment::proofs::Integers::extremes), unfolding(crate::specs::Rules::narrowed))]
 pub(crate) fn narrow(bracket: Interval, edges: Interval) -> Interval
     ensures { result ≡ narrowed bracket edges }
 {
     Interval {
-        lower: larger(bracket.lower, edges.lower),
-        upper: smaller(bracket.upper, edges.upper),
+        lower: bracket.lower.max(edges.lower),
+        upper: bracket.upper.min(edges.upper),
     }
 }
 
 // Rule mm: how far the wait, and the tick that may have begun since, move each edge of a reply.
+#[tactic(auto, using(moment::proofs::Integers::extremes), unfolding(crate::specs::Rules::outward))]
 pub fn outward_span(claim: u16, w: u32) -> i64
     ensures { result ≡ outward claim w }
 {
@@ -47,6 +51,7 @@ pub fn outward_span(claim: u16, w: u32) -> i64
 }
 
 // Rule mm: whether the reply, with the span on either side, is no wider than the edges.
+#[tactic(auto, unfolding(crate::specs::Rules::no_wider, moment::specs::Intervals::edges_within, moment::specs::Moment::in_range))]
 pub(crate) fn no_wider(span: i64, reply: Interval, edges: Interval) -> bool
     requires span { Span span }
     requires reply_value { edges_within reply ≡ true }
@@ -58,6 +63,7 @@ pub(crate) fn no_wider(span: i64, reply: Interval, edges: Interval) -> bool
 }
 
 // Rule mm: both edges moved outward.
+#[tactic(auto, unfolding(crate::specs::Rules::adopted, moment::specs::Intervals::edges_within, moment::specs::Moment::in_range))]
 pub(crate) fn adopt(span: i64, reply: Interval) -> Interval
     requires span { Span span }
     requires reply_value { edges_within reply ≡ true }
@@ -70,6 +76,7 @@ pub(crate) fn adopt(span: i64, reply: Interval) -> Interval
 }
 
 // What is told of a keeper's edges: a reading may leave almost a whole tick after the last count.
+#[tactic(auto, unfolding(crate::specs::Rules::told, moment::specs::Intervals::edges_within, moment::specs::Moment::in_range))]
 pub fn told_of(claim: u16, edges: Interval) -> Interval
     requires { edges_within edges ≡ true }
     ensures { result ≡ told claim edges }
@@ -81,6 +88,7 @@ pub fn told_of(claim: u16, edges: Interval) -> Interval
 }
 
 // Centre and error are those of the told edges, from the keeper's own.
+#[tactic(auto, unfolding(crate::specs::Rules::told, crate::specs::Rules::centre, moment::specs::Intervals::edges_within, moment::specs::Moment::in_range))]
 pub fn centre_of(claim: u16, edges: Interval) -> i64
     requires { edges_within edges ≡ true }
     ensures { result ≡ centre (told claim edges) }
@@ -89,6 +97,7 @@ pub fn centre_of(claim: u16, edges: Interval) -> i64
     floor_half(shown.lower + shown.upper)
 }
 
+#[tactic(auto, unfolding(crate::specs::Rules::told, crate::specs::Rules::centre, crate::specs::Rules::error_of, moment::specs::Moment::floor_half, moment::specs::Intervals::edges_within, moment::specs::Moment::in_range))]
 pub fn error_of(claim: u16, edges: Interval) -> i64
     requires { edges_within edges ≡ true }
     ensures { result ≡ error_of (told claim edges) }

@@ -5,22 +5,6 @@ use Rattle.rules.specs.Rules.{adopted}
 use Rattle.rules.proofs.Fits.{span_fits, lower_out_fits, upper_out_fits}
 use Rattle.rules.proofs.edges.adopt.Goals as goal
 
-pub overflow_sub-result : goal.overflow_sub-result
-overflow_sub-result c =
-    let x = c.args in
-    let s = c.requires.span in
-    let e = c.requires.reply_value in
-    let h = within_read x.reply e in
-    rw (to_z-of_z (lower_fits x.reply h), to_z-of_z (span_fits x.span s)) (lower_out_fits x.reply h x.span s)
-
-pub overflow_add-result : goal.overflow_add-result
-overflow_add-result c =
-    let x = c.args in
-    let s = c.requires.span in
-    let e = c.requires.reply_value in
-    let h = within_read x.reply e in
-    rw (to_z-of_z (upper_fits x.reply h), to_z-of_z (span_fits x.span s)) (upper_out_fits x.reply h x.span s)
-
 pub returns : goal.returns
 unfolding adopted
 returns c =

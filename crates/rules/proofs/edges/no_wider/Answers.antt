@@ -5,18 +5,6 @@ use Rattle.rules.specs.Rules.{no_wider}
 use Rattle.rules.proofs.Fits.{span_fits, twice_fits, wide_fits}
 use Rattle.rules.proofs.edges.no_wider.Goals as goal
 
-pub overflow_sub-wide : goal.overflow_sub-wide
-overflow_sub-wide c =
-    let x = c.args in
-    let h = within_read x.reply c.requires.reply_value in
-    rw (to_z-of_z (upper_fits x.reply h), to_z-of_z (lower_fits x.reply h)) (width_fits x.reply h)
-
-pub overflow_add-wide : goal.overflow_add-wide
-overflow_add-wide c =
-    let x = c.args in
-    let s = c.requires.span in
-    rw (to_z-of_z (span_fits x.span s)) (twice_fits x.span s)
-
 pub overflow_add-wide-2 : goal.overflow_add-wide-2
 overflow_add-wide-2 c =
     let x = c.args in
@@ -29,12 +17,6 @@ overflow_add-wide-2 c =
       to_z-of_z (span_fits x.span s),
       to_z-of_z (twice_fits x.span s),
     ) (wide_fits x.reply h x.span s)
-
-pub overflow_sub-result : goal.overflow_sub-result
-overflow_sub-result c =
-    let x = c.args in
-    let k = within_read x.edges c.requires.edges_value in
-    rw (to_z-of_z (upper_fits x.edges k), to_z-of_z (lower_fits x.edges k)) (width_fits x.edges k)
 
 pub returns : goal.returns
 unfolding no_wider
