@@ -1,14 +1,18 @@
 -- Laws of flight times that are within their limit.
-use mathlib.Core.Path.{◌≡◌, refl}
-use mathlib.Core.Bool.{Bool, true, false}
+use mathlib.Core.Path.{◌≡◌, refl, ap, ◌∙◌}
+use mathlib.Core.Bool.{Bool, true, false, ◌&&◌}
 use mathlib.Core.List.{List}
 use Prim.Native.Nat.{ℕ, ◌<◌, ◌≤◌}
+use native.Mathlib.Omega.{arith}
 use borrow.Author.Tests.{leb-true, eqb-true, eqb-false}
 use lib.Dec.{eqb}
 use lib.ListN.{length, get_or, set, replicate}
 use lib.Seq.{get_or-set_same, get_or-set_other}
+use Rattle.std.specs.List.{list_all, zip}
+use Rattle.std.proofs.lemmas.Slice.Zip.{length-zip, get_or-zip}
 use Rattle.bits.specs.Below.{all_below}
 use Rattle.bits.proofs.Below.{all_at, all_made}
+use Rattle.bits.proofs.Listed.{all_listed}
 use Rattle.bits.proofs.Tests.{both, join}
 use Rattle.flights.specs.Flights.{most_flight, flight_within, flight_kept, flights_kept}
 
@@ -45,3 +49,13 @@ flights_set out back p o b lo lb wo wb e =
     (λ q small.
     let (x, y) = both (flight_within (get_or out q 0)) (flight_within (get_or back q 0)) (all_at 16 (flight_kept out back) e q small) in
     join (set_within out p o q lo wo x) (set_within back p b q lb wb y))
+
+-- the times of a peer as a pair, and of every peer as a list of pairs
+abbrev pub pair_kept : ℕ × ℕ → Bool
+pair_kept p = flight_within p.0 && flight_within p.1
+
+pub flights_listed : (out back : List ℕ) → length out ≡ 16 → length back ≡ 16 → list_all pair_kept (zip out back) ≡ flights_kept out back
+unfolding flights_kept
+flights_listed out back o b =
+    all_listed pair_kept (zip out back) (0, 0) (flight_kept out back) 16 (length-zip out back ∙ omega (arith, o, b))
+    (λ p h. ap pair_kept (get_or-zip out back p (0, 0) (omega (arith, o, h)) (omega (arith, b, h))))

@@ -13,22 +13,12 @@ pub fn time_within(time: u64) -> bool
     time <= MOST_FLIGHT
 }
 
-// The same of a time as a keeper holds it.
-fn time_kept(time: u32) -> bool
-    ensures { result ≡ flight_within time }
-{
-    time_within(time as u64)
-}
-
-// Whether the times of every peer are within their limit. No peer ends the loop, so that the compiler takes several places at once.
+// Whether the times of every peer are within their limit. No peer ends the search, so that the compiler takes several places at once.
 pub fn flights_kept<'a>(out: &'a [u32; 16], back: &'a [u32; 16]) -> bool
     ensures { result ≡ flights_kept out.now back.now }
 {
-    let mut kept = true;
-    let mut p: usize = 0;
-    while p < 16 {
-        kept = kept & (time_kept(out[p]) & time_kept(back[p]));
-        p += 1;
-    }
-    kept
+    out.iter().zip(back).fold(
+        true,
+        |kept, (out, back)| kept & (time_within(u64::from(*out)) & time_within(u64::from(*back))),
+    )
 }

@@ -10,11 +10,8 @@ use lib.Dec.{eqb}
 use Rattle.bits.specs.Bits.{bit_of}
 use Rattle.bits.specs.Below.{updated}
 use Rattle.bits.specs.Choice.{choose}
-use Rattle.bits.proofs.BitLaws.{bit_beyond, bit_set}
-
--- an empty mask marks no number
-pub bit_none : (p : ℕ) → bit_of 0 p ≡ false
-bit_none p = bit_beyond 0 0 p (omega arith) (omega arith)
+use Rattle.bits.proofs.BitLaws.{bit_set}
+use Rattle.places.proofs.Passed.{bit_none}
 
 -- a bit of two masks joined is set in one of them
 bit_or_lem : (a b p : ℕ) → bit_of (bit_or a b) p ≡ (bit_of a p || bit_of b p)

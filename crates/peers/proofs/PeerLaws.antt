@@ -1,22 +1,24 @@
 -- The tests of the peers that the code makes: of those that do not wait, of one tag among all, and of two tags; and the definition in parts.
-use mathlib.Core.Path.{◌≡◌, refl, sym, ◌∙◌}
+use mathlib.Core.Path.{◌≡◌, refl, sym, ap, ◌∙◌}
 use mathlib.Core.Bool.{Bool, true, false, not, ◌&&◌, ◌||◌, and-false, and-true, and_assoc}
-use mathlib.Core.List.{List}
+use mathlib.Core.List.{List, [], ◌∷◌, ◌++◌}
 use Prim.Native.Nat.{ℕ, zero, suc, ◌+◌, ◌<◌, ◌≤◌}
 use native.Mathlib.Nat.{le_trans, add-zero}
-use native.Mathlib.Numerals.{add-one}
 use native.Mathlib.Omega.{arith}
 use borrow.Author.Tests.{eqb-true, eqb-false, eq-eqb, ne_eqb, not-true}
 use lib.Bits.{bit_or, or_add_and, and_le_l, and_le_r}
 use lib.Dec.{eqb}
-use lib.ListN.{get_or}
+use lib.ListN.{length, get_or}
+use Rattle.std.specs.List.{list_all, zip}
+use Rattle.std.proofs.lemmas.Slice.Zip.{length-zip, get_or-zip}
 use Rattle.bits.proofs.Tests.{by_test}
 use Rattle.peers.specs.Peers.{waiter_kept, idle_kept, tags_differ, peers_kept}
 use Rattle.peers.specs.Parts.{idle_or_waits, others_idle, each_waiting, waiters_kept}
 use Rattle.bits.specs.Bits.{bit_of}
 use Rattle.bits.specs.Below.{all_below, count_below}
 use Rattle.bits.proofs.Below.{all_broken}
-use Rattle.peers.proofs.Marks.{bit_none}
+use Rattle.bits.proofs.Listed.{listed_more, all_listed}
+use Rattle.places.proofs.Passed.{bit_none}
 
 -- both numbers are 0 where none of their bits is set
 pub bits_idle : (tag sent : ℕ) → eqb (bit_or tag sent) 0 ≡ idle_kept tag sent
@@ -38,19 +40,22 @@ bits_idle tag sent = go (eqb (bit_or tag sent) 0) refl
         rw (no_tag, no_sent)
     go false e = not_both e (eqb tag 0) (eqb sent 0) refl refl
 
--- the bits of every peer so far, joined with those of one more, where none waits
-pub idle_more : (n some-tag some-sent : ℕ) (tags sent : List ℕ) → idle_kept some-tag some-sent ≡ all_below n (idle_or_waits 0 tags sent)
-    → idle_kept (bit_or some-tag (get_or tags n 0)) (bit_or some-sent (get_or sent n 0)) ≡ all_below (n + 1) (idle_or_waits 0 tags sent)
-unfolding all_below
-idle_more n some-tag some-sent tags sent h =
-    rw (bits_idle some-tag (get_or tags n 0), bits_idle some-sent (get_or sent n 0), add-one n, ← h, bit_none n)
-    (regroup (eqb some-tag 0) (eqb (get_or tags n 0) 0) (eqb some-sent 0) (eqb (get_or sent n 0) 0))
-  where
-    regroup : (a b c d : Bool) → ((a && b) && (c && d)) ≡ ((a && c) && (b && d))
-    regroup false b c d = refl
-    regroup true true c d = refl
-    regroup true false true d = refl
-    regroup true false false d = refl
+-- one peer's numbers as a pair, and every peer's as a list of pairs
+abbrev pub pair_idle : ℕ × ℕ → Bool
+pair_idle p = idle_kept p.0 p.1
+
+pub idle_more : (ys : List (ℕ × ℕ)) (held tag sent : ℕ) → eqb held 0 ≡ list_all pair_idle ys
+    → eqb (bit_or (bit_or held tag) sent) 0 ≡ list_all pair_idle (ys ++ (tag, sent) ∷ [])
+idle_more ys held tag sent e =
+    listed_more pair_idle ys (tag, sent) _
+    (bits_idle (bit_or held tag) sent ∙ ap (λ (t : Bool). t && eqb sent 0) (bits_idle held tag) ∙ and_assoc (eqb held 0) (eqb tag 0) (eqb sent 0)
+    ∙ ap (λ (t : Bool). t && idle_kept tag sent) e)
+
+pub idle_listed : (tags sent : List ℕ) → length tags ≡ 16 → length sent ≡ 16 → list_all pair_idle (zip tags sent) ≡ others_idle 0 tags sent
+unfolding others_idle
+idle_listed tags sent t s =
+    all_listed pair_idle (zip tags sent) (0, 0) (idle_or_waits 0 tags sent) 16 (length-zip tags sent ∙ omega (arith, t, s))
+    (λ p h. ap pair_idle (get_or-zip tags sent p (0, 0) (omega (arith, t, h)) (omega (arith, s, h))) ∙ sym (rw (bit_none p)))
 
 -- ---- a test that holds of one number alone
 

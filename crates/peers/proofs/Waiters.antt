@@ -7,6 +7,7 @@ use native.Mathlib.Omega.{arith}
 use borrow.Author.Tests.{leb-true, ltb-true, ltb-false, eqb-true, eqb-false, eq-eqb, ne_eqb, not-true, not-false}
 use lib.Dec.{ltb}
 use lib.ListN.{get_or}
+use Rattle.std.specs.Prelude.{Some}
 use Rattle.bits.specs.Bits.{bit_of}
 use Rattle.bits.specs.Below.{all_below, updated}
 use Rattle.bits.proofs.Tests.{clash, by_test, both, join, neither}
@@ -14,8 +15,9 @@ use Rattle.bits.proofs.BitLaws.{bit_within}
 use Rattle.bits.proofs.Below.{updated_same, all_at, all_made, all_broken, all_found}
 use Rattle.peers.specs.Peers.{waiter_kept, tags_differ}
 use Rattle.peers.specs.Parts.{idle_or_waits, others_idle, each_waiting, has_tag, tag_alone, tags_alone, waiters_kept}
-use Rattle.peers.proofs.Masks.{Passed, passed_none, passed_all, passed_more, next, after, not_left}
-use Rattle.peers.proofs.Marks.{bit_none, mark_stays}
+use Rattle.places.specs.Places.{Gives}
+use Rattle.places.proofs.Passed.{bit_none, Passed, passed_none, passed_all, passed_more, not_left}
+use Rattle.peers.proofs.Marks.{mark_stays}
 use Rattle.peers.proofs.PeerLaws.{otherwise, counted_once, apart_made, apart_broken}
 
 -- ---- a test of each waiting peer
@@ -119,38 +121,38 @@ module _ (waiting requests ticks : ℕ) (tags sent : List ℕ) where
     pub passed : Passed waiting rest (Marked seen)
     pub apart : shared ≡ false → Apart waiting rest tags
 
-  pub seen_none : waiting < 2 ^ 16 → Seen 0 false waiting
-  seen_none fits = record { passed = passed_none fits; apart = λ e p q hp hq dp dq other same. clash hp dp }
+  pub seen_none : Seen 0 false waiting
+  seen_none = record { passed = passed_none; apart = λ e p q hp hq dp dq other same. clash hp dp }
 
-  module _ {seen : ℕ} {shared : Bool} {rest : ℕ} (s : Seen seen shared rest) (some : 0 < rest) where
+  module _ {seen rest next left : ℕ} {shared : Bool} (s : Seen seen shared rest) (given : Gives rest (Some next) left) where
     -- the next peer's tag differs from those before it, if its remainder is not marked
-    next_apart : Apart waiting rest tags → bit_of seen (remainder (next rest)) ≡ false → Apart waiting (after rest) tags
+    next_apart : Apart waiting rest tags → bit_of seen (remainder next) ≡ false → Apart waiting left tags
     next_apart apart free p q hp hq dp dq other same =
-        not_left s.passed some p dp
-        (λ pn. not_left s.passed some q dq (λ qn. other (pn ∙ sym qn)) (λ g. new q hq g (sym same ∙ ap tag pn)))
-        (λ g. not_left s.passed some q dq (λ qn. new p hp g (same ∙ ap tag qn)) (λ k. apart p q hp hq g k other same))
+        not_left given p dp
+        (λ pn. not_left given q dq (λ qn. other (pn ∙ sym qn)) (λ g. new q hq g (sym same ∙ ap tag pn)))
+        (λ g. not_left given q dq (λ qn. new p hp g (same ∙ ap tag qn)) (λ k. apart p q hp hq g k other same))
       where
-        new : (q : ℕ) → bit_of waiting q ≡ true → bit_of rest q ≡ false → tag q ≡ tag (next rest) → ⊥
+        new : (q : ℕ) → bit_of waiting q ≡ true → bit_of rest q ≡ false → tag q ≡ tag next → ⊥
         new q e f same = clash (s.passed.done q e f).mark (rw same free)
 
-    pub seen_more : (hit : Bool) (then : ℕ) → kept (next rest) ≡ true → hit ≡ bit_of seen (remainder (next rest))
-        → ((q : ℕ) → bit_of then q ≡ updated (bit_of seen) (remainder (next rest)) true q) → Seen then (shared || hit) (after rest)
+    pub seen_more : (hit : Bool) (then : ℕ) → kept next ≡ true → hit ≡ bit_of seen (remainder next)
+        → ((q : ℕ) → bit_of then q ≡ updated (bit_of seen) (remainder next) true q) → Seen then (shared || hit) left
     seen_more hit then k hits marks =
         record {
           passed =
-              passed_more s.passed some
-              (λ q h. record { in_order = h.in_order; mark = marks (remainder q) ∙ mark_stays (bit_of seen) (remainder (next rest)) (remainder q) h.mark })
-              (record { in_order = k; mark = marks (remainder (next rest)) ∙ updated_same (bit_of seen) (remainder (next rest)) true });
+              passed_more s.passed given
+              (λ q h. record { in_order = h.in_order; mark = marks (remainder q) ∙ mark_stays (bit_of seen) (remainder next) (remainder q) h.mark })
+              (record { in_order = k; mark = marks (remainder next) ∙ updated_same (bit_of seen) (remainder next) true });
           apart = λ e. let (before, free) = neither _ _ e in next_apart (s.apart before) (sym hits ∙ free);
         }
 
   -- none is left: the tags differ where no two share a remainder, and else where each is in one place only
-  module _ {seen : ℕ} {shared : Bool} (s : Seen seen shared 0) where
+  module _ {seen rest : ℕ} {shared : Bool} (s : Seen seen shared rest) (none : rest ≡ 0) where
     each : (q : ℕ) → bit_of waiting q ≡ true → kept q ≡ true
-    each q e = (passed_all s.passed q e).in_order
+    each q e = (passed_all s.passed none q e).in_order
 
     pub seen_apart : shared ≡ false → all_kept ≡ true
-    seen_apart none = waiters_made each (s.apart none)
+    seen_apart unlike = waiters_made each (rw none at (s.apart unlike))
 
     pub seen_shared : waiting < 2 ^ 16 → others_idle waiting tags sent ≡ true → tags_alone waiting tags ≡ all_kept
     seen_shared fits idle = go (tags_alone waiting tags) refl

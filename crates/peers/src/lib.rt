@@ -1,13 +1,14 @@
 // What a keeper holds of its peers, as a mask of those that wait and an array each of tags and tick counts, and whether it is in order.
 #![tactic(auto)]
 
-ghost use Rattle.std.specs.Prelude.{◌≡◌, true, ℕ, ◌<◌, ◌≤◌};
+ghost use Rattle.std.specs.Prelude.{◌≡◌, true, ℕ, ◌<◌};
 ghost use Rattle.bits.specs.Bits.{bit_of};
-ghost use Rattle.bits.specs.Below.{one, updated};
+ghost use Rattle.bits.specs.Below.{updated};
 ghost use Rattle.peers.specs.Peers.{waiter_kept, idle_kept, peers_kept};
 ghost use Rattle.peers.specs.Parts.{others_idle, tag_alone, tags_alone, waiters_kept};
 
 use bits::bit_of;
+use places::Places;
 
 pub const PEERS: u8 = 16;
 
@@ -15,35 +16,25 @@ pub const PEERS: u8 = 16;
 fn waiter_kept(requests: u32, ticks: u64, tag: u32, sent: u64) -> bool
     ensures { result ≡ waiter_kept requests ticks tag sent }
 {
-    if tag < 1 {
-        return false;
-    }
-    if requests < tag {
-        return false;
-    }
-    sent <= ticks
+    1 <= tag && tag <= requests && sent <= ticks
 }
 
 // Another peer holds 0 for both. Both are tested at once, by their bits: the test of a keeper asks this of up to fifteen peers.
 fn idle_kept(tag: u32, sent: u64) -> bool
     ensures { result ≡ idle_kept tag sent }
 {
-    (tag as u64) | sent == 0
+    u64::from(tag) | sent == 0
 }
 
-// Every peer holds 0 for both. No peer ends the loop, so that the compiler takes several places at once.
+// Every peer holds 0 for both. No peer ends the search, so that the compiler takes several places at once.
 fn all_idle<'a>(tags: &'a [u32; 16], sent_at: &'a [u64; 16]) -> bool
     ensures { result ≡ others_idle 0 tags.now sent_at.now }
 {
-    let mut some_tag: u32 = 0;
-    let mut some_sent: u64 = 0;
-    let mut p: usize = 0;
-    while p < 16 {
-        some_tag = some_tag | tags[p];
-        some_sent = some_sent | sent_at[p];
-        p += 1;
-    }
-    idle_kept(some_tag, some_sent)
+    let held = tags
+        .iter()
+        .zip(sent_at)
+        .fold(0, |held, (tag, sent)| held | u64::from(*tag) | *sent);
+    held == 0
 }
 
 // Each peer with none waiting holds 0 for both. A keeper in which no peer waits is tested without its mask.
@@ -53,22 +44,13 @@ fn others_idle<'a>(waiting: u16, tags: &'a [u32; 16], sent_at: &'a [u64; 16]) ->
     if waiting == 0 {
         return all_idle(tags, sent_at);
     }
-    let mut p: u8 = 0;
-    while p < PEERS {
-        if !bit_of(waiting, p) {
-            if !idle_kept(tags[p as usize], sent_at[p as usize]) {
-                return false;
-            }
+    for p in 0..PEERS {
+        let place = usize::from(p);
+        if !(bit_of(waiting, p) || idle_kept(tags[place], sent_at[place])) {
+            return false;
         }
-        p += 1;
     }
     true
-}
-
-fn once(same: bool) -> u32
-    ensures { (result ≡ one same) × (result ≤ 1) }
-{
-    if same { 1 } else { 0 }
 }
 
 // Exactly one of the sixteen places has the tag. The places are counted without a branch, so that several are compared at once.
@@ -76,10 +58,8 @@ fn tag_alone(tag: u32, tags: &[u32; 16]) -> bool
     ensures { result ≡ tag_alone tag tags.now }
 {
     let mut times: u32 = 0;
-    let mut q: usize = 0;
-    while q < 16 {
-        times += once(tags[q] == tag);
-        q += 1;
+    for other in tags {
+        times += u32::from(*other == tag);
     }
     times == 1
 }
@@ -88,10 +68,7 @@ fn tag_alone(tag: u32, tags: &[u32; 16]) -> bool
 fn tags_alone(waiting: u16, tags: &[u32; 16]) -> bool
     ensures { result ≡ tags_alone waiting tags.now }
 {
-    let mut rest = waiting;
-    while rest != 0 {
-        let p = u16::trailing_zeros(rest) as usize;
-        rest = rest & (rest - 1);
+    for p in Places::of(waiting) {
         if !tag_alone(tags[p], tags) {
             return false;
         }
@@ -129,11 +106,8 @@ fn waiters_kept<'a>(
 {
     let mut seen: u64 = 0;
     let mut shared = false;
-    let mut rest = waiting;
-    while rest != 0 {
-        let p = u16::trailing_zeros(rest) as usize;
+    for p in Places::of(waiting) {
         let tag = tags[p];
-        rest = rest & (rest - 1);
         if !waiter_kept(requests, ticks, tag, sent_at[p]) {
             return false;
         }
@@ -141,10 +115,7 @@ fn waiters_kept<'a>(
         shared = shared | marked(seen, place);
         seen = mark(seen, place);
     }
-    if shared {
-        return tags_alone(waiting, tags);
-    }
-    true
+    !shared || tags_alone(waiting, tags)
 }
 
 // Whether every peer is in order: first those with none waiting, then those that wait.
@@ -157,8 +128,5 @@ pub fn peers_kept<'a>(
 ) -> bool
     ensures { result ≡ peers_kept waiting requests ticks tags.now sent_at.now }
 {
-    if !others_idle(waiting, tags, sent_at) {
-        return false;
-    }
-    waiters_kept(waiting, requests, ticks, tags, sent_at)
+    others_idle(waiting, tags, sent_at) && waiters_kept(waiting, requests, ticks, tags, sent_at)
 }

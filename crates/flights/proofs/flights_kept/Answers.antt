@@ -1,28 +1,13 @@
-use mathlib.Core.Path.{◌≡◌, refl}
-use native.Mathlib.Numerals.{add-one}
-use native.Mathlib.Omega.{arith}
-use Rattle.bits.specs.Below.{all_below}
-use Rattle.flights.specs.Flights.{flights_kept}
+-- The fold tests each pair of times, and a pair's place is its peer.
+use Rattle.std.proofs.Common.{rules, ◌∙◌}
+use Rattle.std.proofs.lemmas.Iterator.{YieldsList-from_slice, YieldsList-from_zip}
+use Rattle.bits.proofs.Listed.{tested_by_fold}
+use Rattle.flights.proofs.FlightLaws.{pair_kept, flights_listed}
 use Rattle.flights.proofs.flights_kept.Goals as goal
 
-pub loop-p-init : goal.loop-p-init
-unfolding all_below
-loop-p-init c = (omega arith, refl)
-
-pub bounds-out-p : goal.bounds-out-p
-bounds-out-p c = omega (arith, c.loop-p-test.true)
-
-pub bounds-back-p : goal.bounds-back-p
-bounds-back-p c = omega (arith, c.loop-p-test.true)
-
-pub loop-p-preserved : goal.loop-p-preserved
-unfolding all_below
-loop-p-preserved c =
-    let k = c.loop-p in
-    (omega arith, rw (add-one k.p, k.invariant.1, c.time_kept.ensures, c.time_kept-in-loop-p.ensures))
-
 pub returns : goal.returns
-unfolding flights_kept
 returns c =
-    let all : c.loop-p.p ≡ 16 = omega arith in
-    rw (c.loop-p.invariant.1, all)
+    let out = c.args.out.now in
+    let back = c.args.back.now in
+    tested_by_fold pair_kept c.fold.ensures.ran (YieldsList-from_zip (YieldsList-from_slice out cc) (YieldsList-from_slice back cc)) (λ a x b f' k. search rules)
+    ∙ flights_listed out back c.told-out c.told-back

@@ -1,22 +1,15 @@
-use mathlib.Core.Path.{◌≡◌, refl, ◌∙◌}
-use native.Mathlib.Omega.{arith}
-use Rattle.bits.specs.Below.{all_below}
-use Rattle.peers.specs.Parts.{others_idle}
-use Rattle.peers.proofs.PeerLaws.{idle_more}
+-- The fold joins the bits of each pair, and a pair's place is its peer.
+use Rattle.std.proofs.Common.{rules, bit_or, ◌≡◌, ◌∙◌, eqb, refl}
+use Rattle.std.specs.List.{list_all}
+use Rattle.std.proofs.lemmas.Iterator.{YieldsList-from_slice, YieldsList-from_zip}
+use Rattle.bits.proofs.Listed.{folded}
+use Rattle.peers.proofs.PeerLaws.{pair_idle, idle_more, idle_listed}
 use Rattle.peers.proofs.all_idle.Goals as goal
 
-pub loop-p-init : goal.loop-p-init
-unfolding all_below
-loop-p-init c = (omega arith, refl)
-
-pub loop-p-preserved : goal.loop-p-preserved
-loop-p-preserved c =
-    let at = c.loop-p in
-    let x = c.args in
-    (omega arith, idle_more at.p at.some_tag at.some_sent x.tags.now x.sent_at.now at.invariant.1)
-
 pub returns : goal.returns
-unfolding others_idle
 returns c =
-    let all : c.loop-p.p ≡ 16 = omega arith in
-    c.idle_kept.ensures ∙ (rw all at c.loop-p.invariant.1)
+    let tags = c.args.tags.now in
+    let sent = c.args.sent_at.now in
+    folded (λ ys held. eqb held 0 ≡ list_all pair_idle ys) c.fold-held.ensures.ran (YieldsList-from_zip (YieldsList-from_slice tags cc) (YieldsList-from_slice sent cc)) refl
+    (λ ys a x b f' j k. let e : b ≡ bit_or (bit_or a x.0.now) x.1.now = search rules in (rw e (idle_more ys a x.0.now x.1.now j), refl))
+    ∙ idle_listed tags sent c.told-tags c.told-sent_at

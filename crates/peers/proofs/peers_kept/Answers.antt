@@ -3,11 +3,8 @@ use mathlib.Core.Path.{sym, ◌∙◌}
 use Rattle.peers.proofs.PeerLaws.{peers_in_parts}
 use Rattle.peers.proofs.peers_kept.Goals as goal
 
-pub returns-then-not-others_idle : goal.returns-then-not-others_idle
-returns-then-not-others_idle c = rw (peers_in_parts, sym c.others_idle.ensures ∙ c.if-not-others_idle.true)
+pub returns-then-others_idle : goal.returns-then-others_idle
+returns-then-others_idle c = rw (peers_in_parts, sym c.others_idle.ensures ∙ c.if-others_idle.true, c.waiters_kept.ensures)
 
-pub waiters_kept-requires : goal.waiters_kept-requires
-waiters_kept-requires c = sym c.others_idle.ensures ∙ c.if-not-others_idle.false
-
-pub returns : goal.returns
-returns c = rw (peers_in_parts, sym c.others_idle.ensures ∙ c.if-not-others_idle.false, c.waiters_kept.ensures)
+pub returns-else-others_idle : goal.returns-else-others_idle
+returns-else-others_idle c = rw (peers_in_parts, sym c.others_idle.ensures ∙ c.if-others_idle.false) c.if-others_idle.false

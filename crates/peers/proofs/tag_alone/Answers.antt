@@ -1,31 +1,32 @@
 use mathlib.Core.Path.{◌≡◌, refl}
+use mathlib.Core.Bool.{Bool, true, false}
+use mir.Val.{bool_byte}
+use Prim.Native.Nat.{◌≤◌}
 use native.Mathlib.Numerals.{add-one}
 use native.Mathlib.Omega.{arith}
-use Rattle.bits.specs.Below.{count_below}
-use Rattle.peers.specs.Parts.{tag_alone}
+use Rattle.bits.specs.Below.{count_below, one}
+use Rattle.peers.specs.Parts.{has_tag, tag_alone}
 use Rattle.peers.proofs.tag_alone.Goals as goal
 
-pub loop-q-init : goal.loop-q-init
+-- a flag as a number
+byte_one : (t : Bool) → (bool_byte t ≡ one t) × (bool_byte t ≤ 1)
+byte_one true = (refl, omega arith)
+byte_one false = (refl, omega arith)
+
+pub loop-other-init : goal.loop-other-init
 unfolding count_below
-loop-q-init c = (omega arith, omega arith, refl)
+loop-other-init c = (omega arith, refl)
 
-pub bounds-tags-q : goal.bounds-tags-q
-bounds-tags-q c = omega (arith, c.loop-q-test.true)
-
-pub overflow_add-times : goal.overflow_add-times
-overflow_add-times c = omega (arith, c.once-times.ensures.1, c.loop-q.invariant.1, c.loop-q-test.true)
-
-pub loop-q-preserved : goal.loop-q-preserved
+pub loop-other-preserved : goal.loop-other-preserved
 unfolding count_below
-loop-q-preserved c =
-    let k = c.loop-q in (
-      omega arith,
-      omega (arith, c.once-times.ensures.1, k.invariant.1),
-      rw (add-one k.q, c.once-times.ensures.0, k.invariant.2),
-    )
+loop-other-preserved c =
+    let k = c.loop-other in
+    let a = c.args in
+    let (same, small) = byte_one (has_tag a.tag a.tags.now k.other-index) in
+    (omega (arith, c.from-times.ensures, small, k.invariant.0), rw (add-one k.other-index, c.from-times.ensures, same, k.invariant.1))
 
 pub returns : goal.returns
 unfolding tag_alone
 returns c =
-    let all : c.loop-q.q ≡ 16 = omega arith in
-    rw (c.loop-q.invariant.2, all)
+    let all : c.loop-other.other-index ≡ 16 = omega arith in
+    rw (c.loop-other.invariant.1, all)

@@ -2,8 +2,8 @@
 use Rattle.peers.proofs.Waiters.{Seen}
 use Rattle.peers.proofs.waiters_kept.Given as goal
 
-abbrev pub invariant-loop-rest : goal.invariant-loop-rest
-invariant-loop-rest l = Seen l.waiting l.requests l.ticks l.tags l.sent_at l.seen l.shared l.rest
-
-abbrev pub decreases-loop-rest : goal.decreases-loop-rest
-decreases-loop-rest l = l.rest
+abbrev pub invariant-loop-p : goal.invariant-loop-p
+invariant-loop-p l =
+    (goal.iterator-loop-p).can_next l.p-iterator
+    × (goal.iterator-loop-p).is_finite l.p-iterator
+    × Seen l.waiting l.requests l.ticks l.tags l.sent_at l.seen l.shared l.p-iterator.rest
