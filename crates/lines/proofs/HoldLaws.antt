@@ -1,32 +1,22 @@
 -- Laws of the bytes of an unfinished line that are moved to the front of a buffer.
 use mathlib.Core.Path.{◌≡◌, sym, ap, ◌∙◌}
-use mathlib.Core.List.{List, [], ◌∷◌, ◌++◌}
-use Prim.Native.Nat.{ℕ, suc, ◌+◌, ◌-◌, ◌≤◌, ◌<◌, min}
+use mathlib.Core.List.{List, ◌++◌}
+use Prim.Native.Nat.{ℕ, ◌+◌, ◌-◌, ◌≤◌, ◌<◌, min}
 use native.Mathlib.Omega.{arith}
-use native.Mathlib.Numerals.{add-one}
 use borrow.Author.Tests.{leb-true, leb-false}
 use lib.Dec.{leb}
-use lib.ListN.{length, take, drop, set, get_or, length-take, length-drop, take-append-drop, drop_of_length-le}
-use lib.Seq.{take_all, take-nil, take-append-le, drop-append-le, drop-cons, take-suc, set_at, append_snoc, get_or-append-add, get_or-drop, length-take-le}
+use lib.ListN.{length, take, drop, length-take, length-drop, take-append-drop, drop_of_length-le}
+use lib.Seq.{take_all, take-nil, take-append-le, drop-append-le}
+use Rattle.std.specs.List.{copy_within}
 use Rattle.lines.specs.Lines.{held_of}
 use Rattle.bits.proofs.Tests.{by_test}
 
--- one byte more moved: it is read behind all that were written
-pub hold_more : (s : List ℕ) (from i : ℕ) → from + i < length s
-    → set (take i (drop from s) ++ drop i s) i (get_or (take i (drop from s) ++ drop i s) (from + i) 0) ≡ take (i + 1) (drop from s) ++ drop (i + 1) s
-hold_more s from i h =
-    let front = take i (drop from s) in
-    let size : length front ≡ i = length-take-le i (drop from s) (simp length-drop (omega arith)) in
-    let place : from + i ≡ length front + from = omega (arith, size) in
-    let read : get_or (front ++ drop i s) (from + i) 0 ≡ get_or s (from + i) 0 =
-    rw (place, get_or-append-add front (drop i s) from 0, get_or-drop i s from 0, size)
-    in
-    let here : drop i s ≡ get_or s i 0 ∷ drop (suc i) s = drop-cons s i 0 (omega arith) in
-    let grown : take (suc i) (drop from s) ≡ front ++ (get_or s (from + i) 0 ∷ []) =
-    rw (take-suc (drop from s) i 0 (simp length-drop (omega arith)), get_or-drop from s i 0)
-    in
-    rw (read, here, set_at front (get_or s i 0) (drop (suc i) s) (get_or s (from + i) 0) i size, add-one i, grown)
-    (sym (append_snoc front (get_or s (from + i) 0) (drop (suc i) s)))
+-- so many bytes from a place on, moved to the front
+pub moved_front : (s : List ℕ) (from n : ℕ) → copy_within s from (from + n) 0 ≡ take n (drop from s) ++ drop n s
+moved_front s from n =
+    let count : from + n - from ≡ n = omega arith in
+    let place : 0 + n ≡ n = omega arith in
+    rw (count, place)
 
 -- the bytes that are held, by their count
 pub held_is : (s : List ℕ) (from end most : ℕ) → held_of s from end most ≡ take (min most (min end (length s) - from)) (drop from s)

@@ -1,16 +1,21 @@
 -- Laws of LFs among bytes, and of the first of them.
-use mathlib.Core.Path.{◌≡◌, refl, sym, ap, ◌∙◌}
+use mathlib.Core.Path.{◌≡◌, refl, sym, ap}
+use mathlib.Core.Bool.{Bool, not, cond}
 use mathlib.Core.List.{List, [], ◌∷◌, ◌++◌, append_assoc}
-use Prim.Native.Nat.{ℕ, zero, suc, ◌+◌, ◌≤◌, ◌<◌}
+use Prim.Native.Nat.{ℕ, zero, suc, ◌+◌, ◌*◌, ◌≤◌, ◌<◌}
 use native.Mathlib.Omega.{arith}
 use native.Mathlib.Numerals.{add-one}
-use borrow.Author.Tests.{eq-eqb, ne_eqb, eqb-true, eqb-false}
-use lib.Bits.{bit_or, or_add_and, and_le_l, and_le_r}
-use lib.Dec.{eqb}
+use borrow.Author.Tests.{eq-eqb, ne_eqb, eqb-true, ltb-false}
+use lib.Dec.{eqb, ltb}
 use lib.ListN.{length, take, drop, get_or, length-drop, drop_of_length-le}
-use lib.Seq.{take-suc, take_all, drop-cons, drop-drop}
+use lib.Seq.{take_all, drop-cons, drop-drop}
+use Rattle.std.specs.Prelude.{Option, Some, None}
+use Rattle.std.specs.Option.{unwrap_or}
+use Rattle.std.specs.Simd.{first_chunks}
+use Rattle.std.specs.List.{list_all, position_or_len}
+use Rattle.std.proofs.lemmas.List.Sums.{prefix_len-le-length}
 use Rattle.bits.proofs.Tests.{by_test}
-use Rattle.lines.specs.Lines.{lf, breaks, line_length, joined, Unbroken}
+use Rattle.lines.specs.Lines.{lf, breaks, line_length, joined, Unbroken, SameEnd}
 
 pub breaks_append : (a b : List ℕ) → breaks (a ++ b) ≡ breaks a + breaks b
 unfolding breaks
@@ -98,36 +103,55 @@ open_breaks s h =
     let all : take (line_length s) s ≡ s = take_all (line_length s) s h in
     rw all at (line_unbroken s)
 
--- ---- code that counts
+-- ---- bytes and blocks in turn
 
--- one byte more
-pub breaks_more : (s : List ℕ) (i : ℕ) → i < length s → breaks (take (i + 1) s) ≡ breaks (take i s) + breaks (get_or s i 0 ∷ [])
-breaks_more s i h = rw (add-one i, take-suc s i 0) (breaks_append (take i s) (get_or s i 0 ∷ []))
-
--- a byte that is one, and one that is none
-pub breaks_lf : (b : ℕ) → b ≡ lf → breaks (b ∷ []) ≡ 1
+-- no byte is an LF
+pub unbroken_listed : (s : List ℕ) → list_all (λ b. not (eqb b lf)) s ≡ eqb (breaks s) 0
 unfolding breaks
-breaks_lf b e = rw (eq-eqb b lf e)
+unbroken_listed [] = refl
+unbroken_listed (b ∷ s) = by_test (eqb b lf) (λ t. rw t (sym (ne_eqb (suc (breaks s)) 0 (λ z. omega arith)))) (λ t. rw (t, unbroken_listed s))
 
-pub breaks_other : (b : ℕ) → (b ≡ lf → ⊥) → breaks (b ∷ []) ≡ 0
-unfolding breaks
-breaks_other b h = rw (ne_eqb b lf h)
+-- the place of the first byte that is one
+pub line_position : (s : List ℕ) → position_or_len (λ b. eqb b lf) s ≡ line_length s
+unfolding line_length
+line_position [] = refl
+line_position (b ∷ s) = by_test (eqb b lf) (λ t. rw t) (λ t. rw (t, line_position s) (omega arith))
 
--- the bits of two numbers are none exactly where their sum is
-pub or_none : (a n m : ℕ) → eqb a 0 ≡ eqb n 0 → eqb (bit_or a m) 0 ≡ eqb (n + m) 0
-or_none a n m e =
-    by_test (eqb (bit_or a m) 0)
-    (λ t.
-    let none : bit_or a m ≡ 0 = eqb-true _ _ t in
-    let no_a : a ≡ 0 = omega (arith, or_add_and a m, and_le_r a m) in
-    let no_m : m ≡ 0 = omega (arith, or_add_and a m, and_le_l a m) in
-    let no_n : n ≡ 0 = eqb-true n 0 (sym e ∙ eq-eqb a 0 no_a) in
-    rw t (sym (eq-eqb (n + m) 0 (omega arith))))
-    (λ t.
-    rw t
-    (sym
-    (ne_eqb (n + m) 0
-    (λ z.
-    let no_n : n ≡ 0 = omega (arith, z) in
-    let no_a : a ≡ 0 = eqb-true a 0 (e ∙ eq-eqb n 0 no_n) in
-    eqb-false (bit_or a m) 0 t (omega (arith, z, or_add_and a m))))))
+-- the first item that passes a test, or their number where none does
+pub found_or_all : {A : Type 0} (test : A → Bool) (xs : List A) (r : Option ℕ)
+    → r ≡ cond (ltb (position_or_len test xs) (length xs)) (Some (position_or_len test xs)) None → unwrap_or r (length xs) ≡ position_or_len test xs
+found_or_all test xs r e =
+    by_test (ltb (position_or_len test xs) (length xs))
+    (λ t. rw (e, t))
+    (λ t. rw (e, t) (omega (arith, ltb-false _ _ t, prefix_len-le-length (λ x. not (test x)) xs)))
+
+-- a block that holds an LF
+abbrev pub broken : List ℕ → Bool
+broken block = not (eqb (breaks block) 0)
+
+-- the first LF stands so many bytes on, or behind them
+abbrev pub Past : List ℕ → ℕ → Type 0
+Past s n = (n ≤ length s) × (line_length s ≡ n + line_length (drop n s))
+
+past_none : (n : ℕ) (s : List ℕ) → Past s (n * 0)
+past_none n s = let none : n * 0 ≡ 0 = omega arith in rw none (omega arith, omega arith)
+
+past_one : (n p : ℕ) (s : List ℕ) → n ≤ length s → breaks (take n s) ≡ 0 → Past (drop n s) (n * p) → Past s (n * (1 + p))
+past_one n p s h e behind =
+    let more : n * (1 + p) ≡ n + n * p = omega arith in
+    rw more (omega (arith, behind.0, length-drop n s), omega (arith, line_past n s h e, rw drop-drop at behind.1))
+
+-- past the blocks that hold none
+pub blocks_past : (n k : ℕ) (s : List ℕ) → n * k ≤ length s → Past s (n * position_or_len broken (first_chunks n k s))
+blocks_past n zero s h = past_none n s
+blocks_past n (suc k) s h =
+    by_test (eqb (breaks (take n s)) 0)
+    (λ t. rw t (past_one n _ s (omega arith) (eqb-true _ _ t) (blocks_past n k (drop n s) (simp length-drop (omega arith)))))
+    (λ t. rw t (past_none n s))
+
+pub same_past : (s : List ℕ) (at n : ℕ) → at ≤ length s → Past (drop at s) n → SameEnd s at (at + n)
+same_past s at n h past =
+    record {
+      within = omega (arith, past.0, length-drop at s);
+      same = omega (arith, rw drop-drop at past.1);
+    }

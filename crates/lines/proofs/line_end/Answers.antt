@@ -1,6 +1,10 @@
-use mathlib.Core.Path.{◌∙◌}
-use native.Mathlib.Omega.{arith}
-use Rattle.lines.proofs.LineLaws.{line_here, line_next, line_none}
+-- Past what holds no LF, the first byte that is one.
+use Rattle.std.proofs.Common.{rules, ◌≡◌, ◌-◌, eqb, length, take, drop, sym, ◌∙◌, ap, arith, length-drop}
+use lib.Seq.{take_all}
+use Rattle.std.proofs.lemmas.Iterator.{YieldsList-from_slice}
+use Rattle.std.proofs.lemmas.Iterator.Search.{position_from_yields_List}
+use Rattle.lines.specs.Lines.{lf, line_length}
+use Rattle.lines.proofs.LineLaws.{line_none, line_position, found_or_all}
 use Rattle.lines.proofs.line_end.Goals as goal
 
 -- a place past the end
@@ -9,26 +13,14 @@ returns-then-bytes-at c =
     let a = c.args in
     omega (arith, line_none a.bytes.now a.at (omega arith))
 
-pub half_end-i-requires : goal.half_end-i-requires
-half_end-i-requires c = c.block_end-block.ensures.within
-
-pub loop-i-init : goal.loop-i-init
-loop-i-init c = record { within = c.half_end-i.ensures.within; same = c.block_end-block.ensures.same ∙ c.half_end-i.ensures.same }
-
-pub returns-then-bytes-i-eq-LF : goal.returns-then-bytes-i-eq-LF
-returns-then-bytes-i-eq-LF c =
-    let k = c.loop-i in
-    let s = c.args.bytes.now in
-    omega (arith, k.invariant.same, line_here s k.i (omega arith) c.if-bytes-i-eq-LF.true)
-
-pub loop-i-preserved : goal.loop-i-preserved
-loop-i-preserved c =
-    let k = c.loop-i in
-    let s = c.args.bytes.now in
-    record { within = omega arith; same = omega (arith, k.invariant.same, line_next s k.i (omega arith) c.if-bytes-i-eq-LF.false) }
-
 pub returns : goal.returns
 returns c =
-    let k = c.loop-i in
     let s = c.args.bytes.now in
-    omega (arith, k.invariant.same, line_none s k.i (omega arith))
+    let i = c.half_end-start.result in
+    let rest = take (length s - i) (drop i s) in
+    let found = position_from_yields_List (λ b. eqb b lf) _ _ c.position.result c.position.ensures.ran (YieldsList-from_slice rest cc) (λ x b q k. search rules) in
+    let all : rest ≡ drop i s = take_all (length s - i) (drop i s) (simp length-drop (omega arith)) in
+    let place : c.unwrap_or-length.result ≡ line_length (drop i s) =
+    c.unwrap_or-length.ensures ∙ found_or_all (λ b. eqb b lf) rest c.position.result found ∙ line_position rest ∙ ap line_length all
+    in
+    rw place (sym c.half_end-start.ensures.same ∙ sym c.block_end.ensures.same)
