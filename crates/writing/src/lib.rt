@@ -8,11 +8,8 @@ ghost use Rattle.writing.specs.Puts.{least_output, Puts, pair};
 use digits::write::put_signed;
 use text::output::put_bytes;
 
-// The least output that a line is written to.
+// The least output that a line is written to; a shorter one is refused.
 pub const LEAST_OUTPUT: usize = 256;
-
-// The refusal where the output is shorter.
-pub const NO_ROOM: u8 = 10;
 
 // '(LOWER UPPER)', '(CENTRE ERROR)'
 pub fn put_pair(out: &mut [u8], at: usize, first: i64, second: i64) -> usize
