@@ -3,9 +3,9 @@ use mathlib.Core.Path.{◌≡◌, refl}
 use mathlib.Core.Bool.{Bool, true, false, ◌&&◌}
 use Prim.Native.Nat.{ℕ, ◌<◌, ◌≤◌}
 use native.Mathlib.Omega.{arith}
-use borrow.Author.Tests.{le-leb, lt-leb, leb-true, leb-false}
+use borrow.Author.Tests.{leb-true, leb-false}
 use lib.Dec.{leb}
-use lib.IntN.{ℤ, pos, neg_ℤ, ◌-ℤ◌, +ℤ_idl}
+use lib.IntN.{ℤ, pos, neg_ℤ}
 use mir.Syntax.{w64}
 use mir.Val.{to_z, of_z, SFits}
 use mir.Facts.{to_z-of_z}
@@ -17,9 +17,9 @@ use Rattle.moment.proofs.IntervalLaws.{range_before, range_after}
 use Rattle.command.specs.Forms.{Form}
 use Rattle.command.specs.Limits.{board_within, claim_within, ticks_within, tag_within, slot_within, keeps, command_of, limited}
 use Rattle.command.specs.Edges.{edge_value, integer_of}
-use Rattle.command.specs.declared.Reading.TheVariants.{Accepted, OutsideLimits}
-use Rattle.command.specs.declared.accept.Edge.{Edge}
-use Rattle.command.specs.declared.accept.Integer.TheVariants as I
+use Rattle.std.specs.Prelude.{Some, None, Ok, Err}
+use Rattle.refusal.specs.declared.Refusal.TheVariants.{OutsideLimits}
+use Rattle.numeral.specs.declared.read.Signed.{Signed}
 
 -- ---- one number
 
@@ -49,17 +49,6 @@ tag_bound n e = go (leb 1 n) e
 
 -- ---- an edge
 
-pub edge_of : (e : Edge) → e.magnitude ≤ 9223372036854775807 → integer_of e ≡ I.Of (edge_value e)
-unfolding integer_of
-edge_of e h = rw (le-leb e.magnitude 9223372036854775807 h)
-
-pub edge_far : (e : Edge) → 9223372036854775807 < e.magnitude → integer_of e ≡ I.TooFar
-unfolding integer_of
-edge_far e h = rw (lt-leb e.magnitude 9223372036854775807 h)
-
-pub negated_is : (m : ℕ) → pos 0 -ℤ pos m ≡ neg_ℤ (pos m)
-negated_is m = +ℤ_idl (neg_ℤ (pos m))
-
 fits : (negative : Bool) (m : ℕ) → m ≤ 9223372036854775807 → SFits w64 (integer negative m)
 fits true m h = omega (ints, below m)
 fits false m h = omega ints
@@ -69,30 +58,30 @@ far true m h = range_before (neg_ℤ (pos m)) (omega (ints, below m))
 far false m h = range_after (pos m) (omega ints)
 
 -- an integer that was found, as the machine holds it; one that was not is outside the range
-pub found_edge : (e : Edge) (z : ℤ) → integer_of e ≡ I.Of z → to_z w64 (of_z w64 z) ≡ edge_value e
+pub found_edge : (e : Signed) (z : ℤ) → integer_of e ≡ Some z → to_z w64 (of_z w64 z) ≡ edge_value e
 unfolding integer_of
 found_edge e z h = go (leb e.magnitude 9223372036854775807) refl h
   where
-    go : (t : Bool) → leb e.magnitude 9223372036854775807 ≡ t → choose t (λ _. I.Of (edge_value e)) (λ _. I.TooFar) ≡ I.Of z → to_z w64 (of_z w64 z) ≡ edge_value e
+    go : (t : Bool) → leb e.magnitude 9223372036854775807 ≡ t → choose t (λ _. Some (edge_value e)) (λ _. None) ≡ Some z → to_z w64 (of_z w64 z) ≡ edge_value e
     go true p h =
         let same : edge_value e ≡ z = cc in
         rw (← same) (to_z-of_z (fits e.negative e.magnitude (leb-true e.magnitude 9223372036854775807 p)))
     go false p h = absurd (let k : ◌≡◌ {A = ℕ} 0 1 = cc in omega arith)
 
-pub far_edge : (e : Edge) → integer_of e ≡ I.TooFar → in_range (edge_value e) ≡ false
+pub far_edge : (e : Signed) → integer_of e ≡ None → in_range (edge_value e) ≡ false
 unfolding integer_of
 far_edge e h = go (leb e.magnitude 9223372036854775807) refl h
   where
-    go : (t : Bool) → leb e.magnitude 9223372036854775807 ≡ t → choose t (λ _. I.Of (edge_value e)) (λ _. I.TooFar) ≡ I.TooFar → in_range (edge_value e) ≡ false
+    go : (t : Bool) → leb e.magnitude 9223372036854775807 ≡ t → choose t (λ _. Some (edge_value e)) (λ _. None) ≡ None → in_range (edge_value e) ≡ false
     go true p h = absurd (let k : ◌≡◌ {A = ℕ} 0 1 = cc in omega arith)
     go false p h = far e.negative e.magnitude (leb-false e.magnitude 9223372036854775807 p)
 
 -- ---- a form, by whether it keeps its limits
 
-pub limited_keeps : (f : Form) → keeps f ≡ true → limited f ≡ Accepted (command_of f)
+pub limited_keeps : (f : Form) → keeps f ≡ true → limited f ≡ Ok (command_of f)
 unfolding limited
 limited_keeps f e = rw e
 
-pub limited_breaks : (f : Form) → keeps f ≡ false → limited f ≡ OutsideLimits
+pub limited_breaks : (f : Form) → keeps f ≡ false → limited f ≡ Err OutsideLimits
 unfolding limited
 limited_breaks f e = rw e

@@ -1,6 +1,6 @@
 -- The limits of the numbers in a form, and the command that a form within them is: document 01, 'Line forms' and 'Moments and ticks',
 -- and document 02, orders 3 and 7.
-use Rattle.std.specs.Prelude.{Bool, true, ◌&&◌, ℕ, leb}
+use Rattle.std.specs.Prelude.{Bool, true, ◌&&◌, ℕ, leb, Result, Ok, Err}
 use Rattle.bits.specs.Choice.{choose}
 use Rattle.moment.specs.Intervals.{edges_within}
 use Rattle.flights.specs.Flights.{flight_within}
@@ -8,8 +8,8 @@ use Rattle.command.specs.Forms as F
 use Rattle.command.specs.Forms.{Form}
 use Rattle.command.specs.declared.Command.{Command}
 use Rattle.command.specs.declared.Command.TheVariants as C
-use Rattle.command.specs.declared.Reading.{Reading}
-use Rattle.command.specs.declared.Reading.TheVariants.{Accepted, NoShape, OutsideLimits}
+use Rattle.refusal.specs.declared.Refusal.{Refusal}
+use Rattle.refusal.specs.declared.Refusal.TheVariants.{OutsideLimits}
 
 -- 'its board number 0..15', 'a peer, 0..15'
 unfoldable pub board_within : ℕ → Bool
@@ -67,12 +67,13 @@ form_of C.Waiting = F.waiting
 form_of (C.Window slot start end) = F.window slot start end
 form_of (C.Flight peer out back) = F.flight peer out back
 
--- 'a numeral outside its range, or a first edge above the second' is refusal 2.
-unfoldable pub limited : Form → Reading
-limited f = choose (keeps f) (λ _. Accepted (command_of f)) (λ _. OutsideLimits)
+-- What a line is: a command, or the cause for which the reader refuses it.
+abbrev pub Reading : Type 0
+Reading = Result Command Refusal
 
--- The paper's number of each answer: 0 for a command, 1 for no command shape, 2 for a number outside its limits.
-abbrev pub number_of : Reading → ℕ
-number_of (Accepted c) = 0
-number_of NoShape = 1
-number_of OutsideLimits = 2
+-- 'a numeral outside its range, or a first edge above the second' is refusal 2.
+abbrev pub unless_broken : Bool → Result (Unit {0}) Refusal
+unless_broken kept = choose kept (λ _. Ok tt) (λ _. Err OutsideLimits)
+
+unfoldable pub limited : Form → Reading
+limited f = choose (keeps f) (λ _. Ok (command_of f)) (λ _. Err OutsideLimits)

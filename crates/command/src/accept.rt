@@ -6,76 +6,44 @@ ghost use Rattle.command.specs.Edges.{edge_value, integer_of};
 ghost use Rattle.moment.specs.Intervals.{interval, bounds_of};
 
 use crate::limits::{
-    board_within, claim_within, flight_within, slot_within, tag_within, ticks_within,
+    board_within, claim_within, flight_within, limit, slot_within, tag_within, ticks_within,
 };
 use crate::{Command, Reading};
 use calendar::Date;
 use moment::Interval;
-use moment::intervals::{Bounds, edges_within};
+use moment::intervals::edges_within;
+use numeral::read::Signed;
+use refusal::Refusal;
 use rules::Rule;
 
-// The largest magnitude that is an i64 of either sign.
-const MOST_MAGNITUDE: u64 = 9223372036854775807;
-
-// A signed numeral's sign and magnitude, whose range is not looked at yet.
-#[derive(Clone, Copy)]
-pub struct Edge {
-    pub negative: bool,
-    pub magnitude: u64,
-}
-
-// An edge as an i64, or that it is too far from 0 to be one.
-#[derive(Clone, Copy)]
-pub enum Integer {
-    Of(i64),
-    TooFar,
-}
-
-// Nineteen digits may exceed an i64, so the magnitude is looked at before it becomes one.
-fn integer_of(edge: Edge) -> Integer
+// An edge as an i64, unless it is too far from 0 to be one: nineteen digits may exceed it.
+#[tactic(auto, unfolding(crate::specs::Edges::integer_of))]
+fn integer_of(edge: Signed) -> Option<i64>
     ensures { result ≡ integer_of edge }
 {
-    if MOST_MAGNITUDE < edge.magnitude {
-        return Integer::TooFar;
-    }
-    let magnitude = edge.magnitude as i64;
-    if edge.negative {
-        Integer::Of(-magnitude)
-    } else {
-        Integer::Of(magnitude)
-    }
+    let magnitude = i64::try_from(edge.magnitude).ok()?;
+    Some(if edge.negative { -magnitude } else { magnitude })
 }
 
-fn bounds_of(first: Edge, second: Edge) -> Bounds
+#[tactic(auto, using(crate::proofs::LimitLaws::found_edge, crate::proofs::LimitLaws::far_edge), unfolding(moment::specs::Intervals::bounds_of, moment::specs::Intervals::edges_within))]
+fn bounds_of(first: Signed, second: Signed) -> Option<Interval>
     ensures { result ≡ bounds_of (interval (edge_value first) (edge_value second)) }
 {
-    let Integer::Of(lower) = integer_of(first) else {
-        return Bounds::Outside;
+    let edges = Interval {
+        lower: integer_of(first)?,
+        upper: integer_of(second)?,
     };
-    let Integer::Of(upper) = integer_of(second) else {
-        return Bounds::Outside;
-    };
-    let edges = Interval { lower, upper };
-    if edges_within(edges) {
-        Bounds::Within(edges)
-    } else {
-        Bounds::Outside
-    }
+    edges_within(edges).then_some(edges)
 }
 
-pub fn accept_start(board: u64, rule: Rule, claim: u64, first: Edge, second: Edge) -> Reading
+#[tactic(auto, unfolding(crate::specs::Limits::limited, crate::specs::Limits::board_within, crate::specs::Limits::claim_within, moment::specs::Intervals::bounds_of))]
+pub fn accept_start(board: u64, rule: Rule, claim: u64, first: Signed, second: Signed) -> Reading
     ensures { result ≡ limited (start board rule claim (interval (edge_value first) (edge_value second))) }
 {
-    if !board_within(board) {
-        return Reading::OutsideLimits;
-    }
-    if !claim_within(claim) {
-        return Reading::OutsideLimits;
-    }
-    let Bounds::Within(edges) = bounds_of(first, second) else {
-        return Reading::OutsideLimits;
-    };
-    Reading::Accepted(Command::Start {
+    limit(board_within(board))?;
+    limit(claim_within(claim))?;
+    let edges = bounds_of(first, second).ok_or(Refusal::OutsideLimits)?;
+    Ok(Command::Start {
         board: board as u8,
         rule,
         claim: claim as u16,
@@ -83,75 +51,65 @@ pub fn accept_start(board: u64, rule: Rule, claim: u64, first: Edge, second: Edg
     })
 }
 
+#[tactic(auto, unfolding(crate::specs::Limits::limited, crate::specs::Limits::ticks_within))]
 pub fn accept_pass(ticks: u64) -> Reading
     ensures { result ≡ limited (pass ticks) }
 {
-    if !ticks_within(ticks) {
-        return Reading::OutsideLimits;
-    }
-    Reading::Accepted(Command::Pass {
+    limit(ticks_within(ticks))?;
+    Ok(Command::Pass {
         ticks: ticks as u32,
     })
 }
 
+#[tactic(auto, unfolding(crate::specs::Limits::limited, crate::specs::Limits::board_within))]
 pub fn accept_request(peer: u64) -> Reading
     ensures { result ≡ limited (request peer) }
 {
-    if !board_within(peer) {
-        return Reading::OutsideLimits;
-    }
-    Reading::Accepted(Command::Request { peer: peer as u8 })
+    limit(board_within(peer))?;
+    Ok(Command::Request { peer: peer as u8 })
 }
 
-pub fn accept_reply(peer: u64, tag: u64, first: Edge, second: Edge) -> Reading
+#[tactic(auto, unfolding(crate::specs::Limits::limited, crate::specs::Limits::board_within, crate::specs::Limits::tag_within, moment::specs::Intervals::bounds_of))]
+pub fn accept_reply(peer: u64, tag: u64, first: Signed, second: Signed) -> Reading
     ensures { result ≡ limited (reply peer tag (interval (edge_value first) (edge_value second))) }
 {
-    if !board_within(peer) {
-        return Reading::OutsideLimits;
-    }
-    if !tag_within(tag) {
-        return Reading::OutsideLimits;
-    }
-    let Bounds::Within(edges) = bounds_of(first, second) else {
-        return Reading::OutsideLimits;
-    };
-    Reading::Accepted(Command::Reply {
+    limit(board_within(peer))?;
+    limit(tag_within(tag))?;
+    let edges = bounds_of(first, second).ok_or(Refusal::OutsideLimits)?;
+    Ok(Command::Reply {
         peer: peer as u8,
         tag: tag as u32,
         edges,
     })
 }
 
+#[tactic(auto, unfolding(crate::specs::Limits::limited, crate::specs::Limits::board_within))]
 pub fn accept_drop(peer: u64) -> Reading
     ensures { result ≡ limited (drop peer) }
 {
-    if !board_within(peer) {
-        return Reading::OutsideLimits;
-    }
-    Reading::Accepted(Command::Drop { peer: peer as u8 })
+    limit(board_within(peer))?;
+    Ok(Command::Drop { peer: peer as u8 })
 }
 
 // The dates are taken as they were read, whether they exist or not.
+#[tactic(auto, unfolding(crate::specs::Limits::limited, crate::specs::Limits::slot_within))]
 pub fn accept_window(slot: u64, start: Date, end: Date) -> Reading
     ensures { result ≡ limited (window slot start end) }
 {
-    if !slot_within(slot) {
-        return Reading::OutsideLimits;
-    }
-    Reading::Accepted(Command::Window {
+    limit(slot_within(slot))?;
+    Ok(Command::Window {
         slot: slot as u8,
         start,
         end,
     })
 }
 
+#[tactic(auto, unfolding(crate::specs::Limits::limited, crate::specs::Limits::board_within, flights::specs::Flights::flight_within))]
 pub fn accept_flight(peer: u64, out: u64, back: u64) -> Reading
     ensures { result ≡ limited (flight peer out back) }
 {
-    if !flight_within(peer, out, back) {
-        return Reading::OutsideLimits;
-    }
-    Reading::Accepted(Command::Flight {
+    limit(flight_within(peer, out, back))?;
+    Ok(Command::Flight {
         peer: peer as u8,
         out: out as u32,
         back: back as u32,

@@ -3,6 +3,7 @@
 
 use calendar::Date;
 use moment::Interval;
+use refusal::Refusal;
 use rules::Rule;
 
 pub mod accept;
@@ -47,10 +48,5 @@ pub enum Command {
     },
 }
 
-// What a line is: a command, no command shape (refusal 1), or a shape with a number outside its limits (refusal 2).
-#[derive(Clone, Copy)]
-pub enum Reading {
-    Accepted(Command),
-    NoShape,
-    OutsideLimits,
-}
+// What a line is: a command, or refusal 1 where it has no command's shape, and refusal 2 where a number is outside its limits.
+pub type Reading = Result<Command, Refusal>;

@@ -1,13 +1,14 @@
 // The limits of each number: document 01, 'Line forms' and 'Moments and ticks', and document 02, orders 3 and 7. Each stands here once,
 // but that of a flight time, which a keeper's times have too: `flights` has it.
 ghost use Rattle.std.specs.Prelude.{◌≡◌, ◌&&◌};
-ghost use Rattle.command.specs.Limits.{board_within, claim_within, ticks_within, tag_within, slot_within};
+ghost use Rattle.command.specs.Limits.{unless_broken, board_within, claim_within, ticks_within, tag_within, slot_within};
 ghost use Rattle.moment.specs.Intervals.{edges_within};
 ghost use Rattle.flights.specs.Flights.{flight_within};
 
 use flights::time_within;
 use moment::Interval;
 use moment::intervals::edges_within;
+use refusal::Refusal;
 
 pub const LAST_BOARD: u64 = 15;
 
@@ -19,13 +20,26 @@ pub const MOST_TAG: u64 = 16777215;
 
 pub const LAST_SLOT: u64 = 15;
 
+// Refusal 2, unless the limits are kept.
+pub(crate) fn limit(kept: bool) -> Result<(), Refusal>
+    ensures { result ≡ unless_broken kept }
+{
+    if kept {
+        Ok(())
+    } else {
+        Err(Refusal::OutsideLimits)
+    }
+}
+
 // A board, or a peer.
+#[tactic(auto, unfolding(crate::specs::Limits::board_within))]
 pub fn board_within(board: u64) -> bool
     ensures { result ≡ board_within board }
 {
     board <= LAST_BOARD
 }
 
+#[tactic(auto, unfolding(crate::specs::Limits::claim_within))]
 pub fn claim_within(claim: u64) -> bool
     ensures { result ≡ claim_within claim }
 {
@@ -33,12 +47,14 @@ pub fn claim_within(claim: u64) -> bool
 }
 
 // The ticks of one pass.
+#[tactic(auto, unfolding(crate::specs::Limits::ticks_within))]
 pub fn ticks_within(ticks: u64) -> bool
     ensures { result ≡ ticks_within ticks }
 {
     ticks <= MOST_TICKS
 }
 
+#[tactic(auto, unfolding(crate::specs::Limits::tag_within))]
 pub fn tag_within(tag: u64) -> bool
     ensures { result ≡ tag_within tag }
 {
@@ -46,6 +62,7 @@ pub fn tag_within(tag: u64) -> bool
 }
 
 // A heater's slot.
+#[tactic(auto, unfolding(crate::specs::Limits::slot_within))]
 pub fn slot_within(slot: u64) -> bool
     ensures { result ≡ slot_within slot }
 {
@@ -56,37 +73,19 @@ pub fn slot_within(slot: u64) -> bool
 pub fn start_within(board: u64, claim: u64, edges: Interval) -> bool
     ensures { result ≡ board_within board && claim_within claim && edges_within edges }
 {
-    if !board_within(board) {
-        return false;
-    }
-    if !claim_within(claim) {
-        return false;
-    }
-    edges_within(edges)
+    board_within(board) && claim_within(claim) && edges_within(edges)
 }
 
 // The numbers of a reply.
 pub fn reply_within(peer: u64, tag: u64, edges: Interval) -> bool
     ensures { result ≡ board_within peer && tag_within tag && edges_within edges }
 {
-    if !board_within(peer) {
-        return false;
-    }
-    if !tag_within(tag) {
-        return false;
-    }
-    edges_within(edges)
+    board_within(peer) && tag_within(tag) && edges_within(edges)
 }
 
 // The numbers of a flight: neither time bounds the other.
 pub fn flight_within(peer: u64, out: u64, back: u64) -> bool
     ensures { result ≡ board_within peer && flight_within out && flight_within back }
 {
-    if !board_within(peer) {
-        return false;
-    }
-    if !time_within(out) {
-        return false;
-    }
-    time_within(back)
+    board_within(peer) && time_within(out) && time_within(back)
 }

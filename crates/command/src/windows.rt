@@ -2,44 +2,22 @@
 ghost use Rattle.std.specs.Prelude.{◌≡◌};
 ghost use Rattle.command.specs.Windows.{window_span};
 
-use crate::limits::slot_within;
+use crate::limits::{limit, slot_within};
 use calendar::Date;
 use calendar::convert::moment_of;
 use moment::Interval;
+use refusal::Refusal;
 
-const OUTSIDE_LIMITS: u8 = 2;
-
-const NO_DATE: u8 = 11;
-
-const NO_WINDOW: u8 = 12;
-
-// The window's first moment and its last, which it does not hold; or the number of its refusal.
-#[derive(Clone, Copy)]
-pub enum WindowSpan {
-    Of(Interval),
-    Refused(u8),
-}
-
-// 2, then 11, then 12.
-pub fn window_span(slot: u64, start: Date, end: Date) -> WindowSpan
+// The window's first moment and its last, which it does not hold; else 2, then 11, then 12.
+#[tactic(auto, unfolding(crate::specs::Windows::window_span, crate::specs::Causes::first, calendar::specs::Conversion::moment_result))]
+pub fn window_span(slot: u64, start: Date, end: Date) -> Result<Interval, Refusal>
     ensures { result ≡ window_span slot start end }
 {
-    if !slot_within(slot) {
-        return WindowSpan::Refused(OUTSIDE_LIMITS);
+    limit(slot_within(slot))?;
+    let lower = moment_of(start)?;
+    let upper = moment_of(end)?;
+    if upper <= lower {
+        return Err(Refusal::EmptyWindow);
     }
-    let first = moment_of(start);
-    if first.number != 0 {
-        return WindowSpan::Refused(NO_DATE);
-    }
-    let last = moment_of(end);
-    if last.number != 0 {
-        return WindowSpan::Refused(NO_DATE);
-    }
-    if last.moment <= first.moment {
-        return WindowSpan::Refused(NO_WINDOW);
-    }
-    WindowSpan::Of(Interval {
-        lower: first.moment,
-        upper: last.moment,
-    })
+    Ok(Interval { lower, upper })
 }
