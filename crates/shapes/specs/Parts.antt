@@ -1,29 +1,23 @@
--- The values of what the part readers answer.
-use Rattle.std.proofs.Math.Option.{Option, none, some}
-use Rattle.command.specs.Edges.{edge_value}
-use Rattle.shapes.specs.Shapes.{Values, last_edges, last_dates, last_times, last_number}
-use Rattle.shapes.specs.declared.parts.Dates.{Dates}
-use Rattle.shapes.specs.declared.parts.Dates.TheVariants as D
-use Rattle.shapes.specs.declared.parts.Edges.{Edges}
-use Rattle.shapes.specs.declared.parts.Edges.TheVariants as E
-use Rattle.shapes.specs.declared.parts.Times.{Times}
-use Rattle.shapes.specs.declared.parts.Times.TheVariants as T
-use Rattle.shapes.specs.declared.parts.LastNumber.{LastNumber}
-use Rattle.shapes.specs.declared.parts.LastNumber.TheVariants as L
+-- What the part readers answer.
+use Rattle.std.specs.Prelude.{List, ℕ, Option, Some, None}
+use Rattle.text.specs.Words.{bytes, word_at}
+use Rattle.dates.specs.DateReading.{after_word, after_part}
+use Rattle.shapes.specs.Shapes.{Values, end_at, at_end, last_number}
 
--- The values of the parts that end a line.
-abbrev pub edges_read : Edges → Option (Values last_edges)
-edges_read (E.Of lower upper) = some (edge_value lower, (edge_value upper, tt))
-edges_read E.Absent = none
+-- ' (PART PART))' and no byte after it, by what reads a part from a place.
+unfoldable pub last_pair : {A : Type 0} → (List ℕ → ℕ → Option (A × ℕ)) → List ℕ → ℕ → Option (A × A)
+last_pair part_at line at =
+    after_word (word_at line at (bytes " (")) (λ at.
+    after_part (part_at line at) (λ first at.
+    after_word (word_at line at (bytes " ")) (λ at.
+    after_part (part_at line at) (λ second at.
+    after_word (word_at line at (bytes "))")) (λ at. at_end (end_at line at) (first, second))))))
 
-abbrev pub dates_read : Dates → Option (Values last_dates)
-dates_read (D.Of start end) = some (start, (end, tt))
-dates_read D.Absent = none
+-- The values of two parts that end a line, and of a last number.
+abbrev pub pair_read : {A B : Type 0} → (A → B) → Option (A × A) → Option (B × (B × Unit {0}))
+pair_read value (Some (first, second)) = Some (value first, (value second, tt))
+pair_read value None = None
 
-abbrev pub times_read : Times → Option (Values last_times)
-times_read (T.Of out back) = some (out, (back, tt))
-times_read T.Absent = none
-
-abbrev pub number_read : LastNumber → Option (Values last_number)
-number_read (L.Of n) = some (n, tt)
-number_read L.Absent = none
+abbrev pub number_read : Option ℕ → Option (Values last_number)
+number_read (Some n) = Some (n, tt)
+number_read None = None

@@ -1,30 +1,19 @@
 -- The shapes of command lines: for each form its word, and what follows the word, read part by part. `reader`'s `specs/Grammar.antt` states
 -- that the lines of these shapes are those of the grammar of `command`'s `specs/Forms.antt`.
-use Rattle.std.specs.Prelude.{List, [], ◌∷◌, ℕ, leb, ℤ, length}
-use Rattle.std.proofs.Math.Option.{Option, none, some}
+use Rattle.std.specs.Prelude.{Bool, true, false, List, [], ◌∷◌, ℕ, leb, ℤ, length, Option, Some, None, Err}
 use Prim.Native.String.{String}
 use Rattle.text.specs.Words.{bytes, word_at}
-use Rattle.text.specs.declared.words.Word.{Word}
-use Rattle.text.specs.declared.words.Word.TheVariants.{After, Other}
-use Rattle.numeral.specs.Reading.{number_at, signed_at, integer}
-use Rattle.numeral.specs.declared.read.Number.{Number}
-use Rattle.numeral.specs.declared.read.Number.TheVariants as N
-use Rattle.numeral.specs.declared.read.Signed.{Signed}
-use Rattle.numeral.specs.declared.read.Signed.TheVariants as S
+use Rattle.numeral.specs.Reading.{number_at, signed_at}
 use Rattle.calendar.specs.declared.Date.{Date}
-use Rattle.dates.specs.DateReading.{date_at}
-use Rattle.dates.specs.declared.read.DateAt.{DateAt}
-use Rattle.dates.specs.declared.read.DateAt.TheVariants as D
+use Rattle.dates.specs.DateReading.{date_at, after_word, after_part}
 use Rattle.moment.specs.Intervals.{interval}
+use Rattle.refusal.specs.declared.Refusal.TheVariants.{NoShape}
+use Rattle.command.specs.Edges.{edge_value}
 use Rattle.command.specs.Forms as F
 use Rattle.command.specs.Forms.{Form}
-use Rattle.command.specs.Limits.{limited}
+use Rattle.command.specs.Limits.{Reading, limited}
 use Rattle.rules.specs.declared.Rule.{Rule}
 use Rattle.rules.specs.declared.Rule.TheVariants.{Im, Mm}
-use Rattle.shapes.specs.declared.parts.RuleAt.{RuleAt}
-use Rattle.shapes.specs.declared.parts.RuleAt.TheVariants as R
-use Rattle.shapes.specs.declared.parts.End.{End}
-use Rattle.shapes.specs.declared.parts.End.TheVariants as E
 use Rattle.shapes.specs.declared.Edged.{Edged}
 use Rattle.shapes.specs.declared.Edged.TheVariants.{Start, Reply}
 use Rattle.shapes.specs.declared.Numbered.{Numbered}
@@ -33,9 +22,6 @@ use Rattle.shapes.specs.declared.Bare.{Bare}
 use Rattle.shapes.specs.declared.Bare.TheVariants.{Read, Waiting}
 use Rattle.shapes.specs.declared.FormWord.{FormWord}
 use Rattle.shapes.specs.declared.FormWord.TheVariants as W
-use Rattle.command.specs.declared.Reading.{Reading}
-use Rattle.command.specs.declared.Reading.TheVariants.{NoShape}
-use Rattle.bits.specs.Choice.{choose}
 
 -- What is read one after the other: a text, the rule's word, a numeral, a signed numeral, a date.
 pub data Kind : Type 0 where
@@ -52,56 +38,36 @@ Values (edge ∷ ks) = ℤ × Values ks
 Values (date ∷ ks) = Date × Values ks
 
 -- The rule whose word stands at the place, with the place after it.
-abbrev pub rule_from : Word → Word → RuleAt
-rule_from (After next) w = R.Of Im next
-rule_from Other (After next) = R.Of Mm next
-rule_from Other Other = R.Absent
+abbrev pub rule_from : Option ℕ → Option ℕ → Option (Rule × ℕ)
+rule_from (Some next) w = Some (Im, next)
+rule_from None (Some next) = Some (Mm, next)
+rule_from None None = None
 
-unfoldable pub rule_at : List ℕ → ℕ → RuleAt
+unfoldable pub rule_at : List ℕ → ℕ → Option (Rule × ℕ)
 rule_at line at = rule_from (word_at line at (bytes (F.rule_text Im))) (word_at line at (bytes (F.rule_text Mm)))
 
 -- Whether the line ends at the place.
-unfoldable pub end_at : List ℕ → ℕ → End
-end_at line at = choose (leb (length line) at) (λ _. E.Here) (λ _. E.Later)
+unfoldable pub end_at : List ℕ → ℕ → Bool
+end_at line at = leb (length line) at
 
 -- A value before those that follow it.
 abbrev pub before : {A B : Type 0} → A → Option B → Option (A × B)
-before a none = none
-before a (some b) = some (a, b)
+before a None = None
+before a (Some b) = Some (a, b)
 
--- Going on after a part, or not.
-abbrev pub after_word : {A : Type 0} → Word → (ℕ → Option A) → Option A
-after_word (After next) k = k next
-after_word Other k = none
-
-abbrev pub after_rule : {A : Type 0} → RuleAt → (Rule → ℕ → Option A) → Option A
-after_rule (R.Of r next) k = k r next
-after_rule R.Absent k = none
-
-abbrev pub at_end : {A : Type 0} → End → A → Option A
-at_end E.Here a = some a
-at_end E.Later a = none
-
-abbrev pub after_number : {A : Type 0} → Number → (ℕ → ℕ → Option A) → Option A
-after_number (N.Of n next) k = k n next
-after_number N.Absent k = none
-
-abbrev pub after_signed : {A : Type 0} → Signed → (ℤ → ℕ → Option A) → Option A
-after_signed (S.Of negative magnitude next) k = k (integer negative magnitude) next
-after_signed S.Absent k = none
-
-abbrev pub after_date : {A : Type 0} → DateAt → (Date → ℕ → Option A) → Option A
-after_date (D.Of d next) k = k d next
-after_date D.Absent k = none
+-- A value where the line ends, or none.
+abbrev pub at_end : {A : Type 0} → Bool → A → Option A
+at_end true a = Some a
+at_end false a = None
 
 -- Parts of these kinds from the place to the line's last byte, 'and no byte after its last bracket'.
 unfoldable pub read_parts : (ks : List Kind) → List ℕ → ℕ → Option (Values ks)
 read_parts [] line at = at_end (end_at line at) tt
 read_parts (text t ∷ ks) line at = after_word (word_at line at (bytes t)) (λ next. read_parts ks line next)
-read_parts (rule ∷ ks) line at = after_rule (rule_at line at) (λ r next. before r (read_parts ks line next))
-read_parts (number ∷ ks) line at = after_number (number_at line at) (λ n next. before n (read_parts ks line next))
-read_parts (edge ∷ ks) line at = after_signed (signed_at line at) (λ z next. before z (read_parts ks line next))
-read_parts (date ∷ ks) line at = after_date (date_at line at) (λ d next. before d (read_parts ks line next))
+read_parts (rule ∷ ks) line at = after_part (rule_at line at) (λ r next. before r (read_parts ks line next))
+read_parts (number ∷ ks) line at = after_part (number_at line at) (λ n next. before n (read_parts ks line next))
+read_parts (edge ∷ ks) line at = after_part (signed_at line at) (λ z next. before (edge_value z) (read_parts ks line next))
+read_parts (date ∷ ks) line at = after_part (date_at line at) (λ d next. before d (read_parts ks line next))
 
 -- A shape of the grammar: its form's word, the text that it begins with, what follows, and the form that it is of.
 pub record Shape : Type 0 where
@@ -184,13 +150,13 @@ flight_shape =
 
 -- The form of what was read, if it was.
 abbrev pub formed : {A : Type 0} → (A → Form) → Option A → Option Form
-formed f none = none
-formed f (some v) = some (f v)
+formed f None = None
+formed f (Some v) = Some (f v)
 
 -- 'line is no command shape' is refusal 1, and comes before refusal 2.
 abbrev pub read_as : Option Form → Reading
-read_as none = NoShape
-read_as (some f) = limited f
+read_as None = Err NoShape
+read_as (Some f) = limited f
 
 -- What a line is that begins with the shape's text, and goes on at the place.
 unfoldable pub shaped_from : Shape → List ℕ → ℕ → Reading
@@ -203,4 +169,3 @@ rest_of (W.Numbered w) line at = shaped_from (numbered_shape w) line at
 rest_of (W.Bare w) line at = shaped_from (bare_shape w) line at
 rest_of W.Window line at = shaped_from window_shape line at
 rest_of W.Flight line at = shaped_from flight_shape line at
-rest_of W.Unknown line at = NoShape

@@ -3,52 +3,36 @@
 ghost use Rattle.std.specs.Prelude.{◌≡◌};
 ghost use Rattle.shapes.specs.Shapes.{shaped_from, start_shape, reply_shape, edged_shape, numbered_shape, bare_shape, window_shape, flight_shape};
 
-use crate::parts::{
-    Dates, Edges, End, LastNumber, RuleAt, Times, end_at, last_dates, last_edges, last_number,
-    last_times, rule_at,
-};
+use crate::parts::{end_at, last_number, last_pair, rule_at};
 use crate::{Bare, Edged, Numbered};
 use command::accept::{
     accept_drop, accept_flight, accept_pass, accept_reply, accept_request, accept_start,
     accept_window,
 };
 use command::{Command, Reading};
-use numeral::read::{Number, read_number};
-use text::words::{Word, word_at};
+use numeral::read::read_number;
+use refusal::Refusal;
+use text::words::word_at;
 
+#[tactic(auto, using(crate::proofs::PartLaws::pair_edges), unfolding(crate::specs::Shapes::shaped_from, crate::specs::Shapes::read_parts))]
 fn start_form(line: &[u8], at: usize) -> Reading
     ensures { result ≡ shaped_from start_shape line.now at }
 {
-    let Number::Of(board, at) = read_number(line, at) else {
-        return Reading::NoShape;
-    };
-    let RuleAt::Of(rule, at) = rule_at(line, at) else {
-        return Reading::NoShape;
-    };
-    let Number::Of(claim, at) = read_number(line, at) else {
-        return Reading::NoShape;
-    };
-    let Edges::Of(lower, upper) = last_edges(line, at) else {
-        return Reading::NoShape;
-    };
+    let (board, at) = read_number(line, at).ok_or(Refusal::NoShape)?;
+    let (rule, at) = rule_at(line, at).ok_or(Refusal::NoShape)?;
+    let (claim, at) = read_number(line, at).ok_or(Refusal::NoShape)?;
+    let (lower, upper) = last_pair(line, at).ok_or(Refusal::NoShape)?;
     accept_start(board, rule, claim, lower, upper)
 }
 
+#[tactic(auto, using(crate::proofs::PartLaws::pair_edges), unfolding(crate::specs::Shapes::shaped_from, crate::specs::Shapes::read_parts))]
 fn reply_form(line: &[u8], at: usize) -> Reading
     ensures { result ≡ shaped_from reply_shape line.now at }
 {
-    let Number::Of(peer, at) = read_number(line, at) else {
-        return Reading::NoShape;
-    };
-    let Word::After(at) = word_at(line, at, b" ") else {
-        return Reading::NoShape;
-    };
-    let Number::Of(tag, at) = read_number(line, at) else {
-        return Reading::NoShape;
-    };
-    let Edges::Of(trailing, leading) = last_edges(line, at) else {
-        return Reading::NoShape;
-    };
+    let (peer, at) = read_number(line, at).ok_or(Refusal::NoShape)?;
+    let at = word_at(line, at, b" ").ok_or(Refusal::NoShape)?;
+    let (tag, at) = read_number(line, at).ok_or(Refusal::NoShape)?;
+    let (trailing, leading) = last_pair(line, at).ok_or(Refusal::NoShape)?;
     accept_reply(peer, tag, trailing, leading)
 }
 
@@ -62,12 +46,11 @@ pub fn edged_form(line: &[u8], at: usize, word: Edged) -> Reading
 }
 
 // The number is read before the word is asked for, so that one more form of one number is one more case here.
+#[tactic(auto, unfolding(crate::specs::Shapes::shaped_from))]
 pub fn numbered_form(line: &[u8], at: usize, word: Numbered) -> Reading
     ensures { result ≡ shaped_from (numbered_shape word) line.now at }
 {
-    let LastNumber::Of(number) = last_number(line, at) else {
-        return Reading::NoShape;
-    };
+    let number = last_number(line, at).ok_or(Refusal::NoShape)?;
     match word {
         Numbered::Pass => accept_pass(number),
         Numbered::Request => accept_request(number),
@@ -76,38 +59,33 @@ pub fn numbered_form(line: &[u8], at: usize, word: Numbered) -> Reading
 }
 
 // A word alone: no byte may follow.
+#[tactic(auto, unfolding(crate::specs::Shapes::shaped_from, crate::specs::Shapes::read_parts, command::specs::Limits::limited))]
 pub fn bare_form(line: &[u8], at: usize, word: Bare) -> Reading
     ensures { result ≡ shaped_from (bare_shape word) line.now at }
 {
-    let End::Here = end_at(line, at) else {
-        return Reading::NoShape;
-    };
-    match word {
-        Bare::Read => Reading::Accepted(Command::Read),
-        Bare::Waiting => Reading::Accepted(Command::Waiting),
+    if !end_at(line, at) {
+        return Err(Refusal::NoShape);
     }
+    Ok(match word {
+        Bare::Read => Command::Read,
+        Bare::Waiting => Command::Waiting,
+    })
 }
 
+#[tactic(auto, using(crate::proofs::PartLaws::pair_dates), unfolding(crate::specs::Shapes::shaped_from, crate::specs::Shapes::read_parts))]
 pub fn window_form(line: &[u8], at: usize) -> Reading
     ensures { result ≡ shaped_from window_shape line.now at }
 {
-    let Number::Of(slot, at) = read_number(line, at) else {
-        return Reading::NoShape;
-    };
-    let Dates::Of(start, end) = last_dates(line, at) else {
-        return Reading::NoShape;
-    };
+    let (slot, at) = read_number(line, at).ok_or(Refusal::NoShape)?;
+    let (start, end) = last_pair(line, at).ok_or(Refusal::NoShape)?;
     accept_window(slot, start, end)
 }
 
+#[tactic(auto, using(crate::proofs::PartLaws::pair_times), unfolding(crate::specs::Shapes::shaped_from, crate::specs::Shapes::read_parts))]
 pub fn flight_form(line: &[u8], at: usize) -> Reading
     ensures { result ≡ shaped_from flight_shape line.now at }
 {
-    let Number::Of(peer, at) = read_number(line, at) else {
-        return Reading::NoShape;
-    };
-    let Times::Of(out, back) = last_times(line, at) else {
-        return Reading::NoShape;
-    };
+    let (peer, at) = read_number(line, at).ok_or(Refusal::NoShape)?;
+    let (out, back) = last_pair(line, at).ok_or(Refusal::NoShape)?;
     accept_flight(peer, out, back)
 }

@@ -32,7 +32,7 @@ pub enum Bare {
     Waiting,
 }
 
-// The form whose word it is, by what follows the word, or that it is no form's.
+// The form whose word it is, by what follows the word.
 #[derive(Clone, Copy)]
 pub enum FormWord {
     Edged(Edged),
@@ -40,10 +40,10 @@ pub enum FormWord {
     Bare(Bare),
     Window,
     Flight,
-    Unknown,
 }
 
 // The line from a place on, as the parts of the form whose word came before.
+#[tactic(auto, unfolding(crate::specs::Shapes::rest_of))]
 pub fn parts_from(line: &[u8], at: usize, word: FormWord) -> Reading
     ensures { result ≡ rest_of word line.now at }
 {
@@ -53,6 +53,5 @@ pub fn parts_from(line: &[u8], at: usize, word: FormWord) -> Reading
         FormWord::Bare(form) => bare_form(line, at, form),
         FormWord::Window => window_form(line, at),
         FormWord::Flight => flight_form(line, at),
-        FormWord::Unknown => Reading::NoShape,
     }
 }
