@@ -1,10 +1,10 @@
 -- The grammar theorem's statement: what the reader answers, against the grammar of `command`'s `specs/Forms.antt`, which has no parser in it.
-use Rattle.std.specs.Prelude.{◌≡◌, true, false, List, ◌↔◌, ℕ, ◌≤◌, length}
+use Rattle.std.specs.Prelude.{◌≡◌, true, false, List, ◌↔◌, ℕ, ◌≤◌, length, Ok}
+use Rattle.refusal.specs.Refusal.{number_of}
 use Rattle.command.specs.Forms.{Form, IsSpelling}
-use Rattle.command.specs.Limits.{keeps, form_of, number_of}
+use Rattle.command.specs.Limits.{keeps, form_of}
 use Rattle.reader.specs.Reading.{longest_line, reading_of}
 use Rattle.command.specs.declared.Command.{Command}
-use Rattle.command.specs.declared.Reading.TheVariants.{Accepted}
 
 -- The line is a spelling of the form, and at most 160 bytes long.
 pub record Shaped (f : Form) (line : List ℕ) : Type 0 where
@@ -14,7 +14,7 @@ pub record Shaped (f : Form) (line : List ℕ) : Type 0 where
 -- What the reader answers to the line.
 pub record ReadsTheGrammar (line : List ℕ) : Type 0 where
   -- a command exactly when the line is the spelling of that command's form, and keeps every limit
-  pub command : (c : Command) → (reading_of line ≡ Accepted c) ↔ (Shaped (form_of c) line × (keeps (form_of c) ≡ true))
+  pub command : (c : Command) → (reading_of line ≡ Ok c) ↔ (Shaped (form_of c) line × (keeps (form_of c) ≡ true))
   -- 2 exactly when it is such a spelling and breaks a limit
   pub outside : (number_of (reading_of line) ≡ 2) ↔ ((f : Form) × Shaped f line × (keeps f ≡ false))
   -- 1 exactly when it is the spelling of no form, or is too long
