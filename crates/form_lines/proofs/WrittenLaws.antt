@@ -7,15 +7,22 @@ use Prim.Native.Nat.{ℕ, ◌+◌, ◌≤◌, ◌<◌}
 use Prim.Native.String.{String}
 use native.Mathlib.Nat.{zero-add}
 use native.Mathlib.Omega.{arith}
-use borrow.Author.Tests.{ltb-false, lt-ltb, le-ltb, ne_eqb, eqb-true}
+use borrow.Author.Tests.{ltb-false, lt-ltb, le-ltb, ne_eqb, eqb-true, eqb-false}
 use lib.Dec.{eqb, leb, ltb}
 use lib.ListN.{length, drop}
+use Rattle.std.specs.Prelude.{Result, Ok, Err}
+use Rattle.refusal.specs.declared.Refusal.{Refusal}
+use Rattle.refusal.specs.declared.Refusal.TheVariants as R
+use Rattle.refusal.specs.declared.Refusal.TheVariants.{OutsideLimits}
+use Rattle.refusal.specs.Refusal.{number, number_of}
+use Rattle.refusal.proofs.Numbers.{not_zero}
 use Rattle.bits.specs.Choice.{choose}
 use Rattle.bits.proofs.Tests.{by_test}
 use Rattle.text.specs.Words.{bytes}
 use Rattle.text.proofs.OutputLaws.{put_room}
 use Rattle.writing.specs.Puts.{Puts, least_output, pair}
 use Rattle.moment.specs.declared.Interval.{Interval}
+use Rattle.rules.specs.Rules.{rule_numbered}
 use Rattle.rules.specs.declared.Rule.{Rule}
 use Rattle.rules.specs.declared.Rule.TheVariants.{Im, Mm}
 use Rattle.command.specs.Forms as F
@@ -47,6 +54,15 @@ none_refusal causes out room none = rw (le-ltb (length out) least_output room, n
 pub writes_refused : (causes : List Cause) (line out : List ℕ) (n : ℕ) → n ≡ write_refusal causes out → (n ≡ 0 → ⊥) → write_result n 0 out ≡ writes causes line out
 unfolding writes
 writes_refused causes line out n e some = rw (← e, ne_eqb n 0 some)
+
+-- a refusal by its cause, and a test that was passed
+pub writes_err : {T : Type 0} {r : Result T Refusal} {x : Refusal} (causes : List Cause) (line out : List ℕ) → r ≡ Err x → number_of r ≡ write_refusal causes out
+    → write_result (number x) 0 out ≡ writes causes line out
+writes_err {x = x} causes line out is e = writes_refused causes line out (number x) (sym (ap number_of is) ∙ e) (eqb-false (number x) 0 (not_zero x))
+
+pub passed : {T : Type 0} {r : Result T Refusal} {x : T} (causes : List Cause) (out : List ℕ) → r ≡ Ok x → number_of r ≡ write_refusal causes out
+    → write_refusal causes out ≡ 0
+passed causes out is e = sym e ∙ ap number_of is
 
 -- no refusal: the line at the front
 pub writes_line : (causes : List Cause) (line out : List ℕ) → write_refusal causes out ≡ 0 → writes causes line out ≡ write_result 0 (length line) (line ++ drop (length line) out)
@@ -123,10 +139,46 @@ module _ (f : Form) (word : String) (limits : form_causes f ≡ cause 2 (not (ke
   pub bare_form : parts f ≡ F.text word ∷ [] → writes (cause 2 (not kept) ∷ []) (bytes word) out ≡ written_form f out
   bare_form are = form_written _ _ (bare_line word) are
 
--- ---- by the case that a rule is
+-- the text of a rule has room where a short text has
+pub rule_most : (r : Rule) → length (plain_part (F.rule r)) ≤ 16
+rule_most Im = omega arith
+rule_most Mm = omega arith
 
-pub rule_written : (form : Rule → Form) (out : List ℕ) {w : WriteResult} {r s : Rule} → s ≡ r → w ≡ written_form (form r) out → w ≡ written_form (form s) out
-rule_written form out {w} {r} {s} e h = h ∙ ap (λ (x : Rule). written_form (form x) out) (sym e)
+-- ---- a start by the number of its rule
+
+pub by_rule_ok : (n : ℕ) (form : Rule → Form) (out : List ℕ) {r : Rule} {w : WriteResult} → rule_numbered n ≡ Ok r → w ≡ written_form (form r) out → w ≡ written_by_rule n form out
+unfolding written_by_rule
+by_rule_ok n form out {r} h k =
+    by_test
+    (eqb n 0)
+    (λ a.
+    let e : ◌≡◌ {A = Result Rule Refusal} (Ok Im) (Ok r) = rw a at h in
+    let same : Im ≡ r = cc in
+    rw (a, same) k)
+    (λ a.
+    by_test
+    (eqb n 1)
+    (λ b.
+    let e : ◌≡◌ {A = Result Rule Refusal} (Ok Mm) (Ok r) = rw (a, b) at h in
+    let same : Mm ≡ r = cc in
+    rw (a, b, same) k)
+    (λ b.
+    let e : ◌≡◌ {A = Result Rule Refusal} (Err OutsideLimits) (Ok r) = rw (a, b) at h in cc))
+
+pub by_rule_err : (n : ℕ) (form : Rule → Form) (out : List ℕ) {x : Refusal} {w : WriteResult} → rule_numbered n ≡ Err x → w ≡ refused (number x) out → w ≡ written_by_rule n form out
+unfolding written_by_rule
+by_rule_err n form out {x} h k =
+    by_test
+    (eqb n 0)
+    (λ a. let e : ◌≡◌ {A = Result Rule Refusal} (Ok Im) (Err x) = rw a at h in cc)
+    (λ a.
+    by_test
+    (eqb n 1)
+    (λ b. let e : ◌≡◌ {A = Result Rule Refusal} (Ok Mm) (Err x) = rw (a, b) at h in cc)
+    (λ b.
+    let e : ◌≡◌ {A = Result Rule Refusal} (Err OutsideLimits) (Err x) = rw (a, b) at h in
+    let same : x ≡ OutsideLimits = cc in
+    rw (a, b) (rw same at k)))
 
 -- ---- no number is above the greatest of the table, and no length above the least output
 
@@ -177,6 +229,23 @@ form_bounded f out = writes_bounded (form_causes f) (plain_spelling f) out (caus
 pub refused_bounded : (n : ℕ) (out : List ℕ) → leb n most_number ≡ true → Bounded (refused n out)
 unfolding refused
 refused_bounded n out h = writes_bounded (cause n true ∷ []) [] out (rw h) (λ e. omega arith)
+
+number_most : (r : Refusal) → leb (number r) most_number ≡ true
+number_most R.NoShape = refl
+number_most R.OutsideLimits = refl
+number_most R.OutOfTurn = refl
+number_most R.OwnBoard = refl
+number_most R.LeavesRange = refl
+number_most R.PeerWaits = refl
+number_most R.NoRequest = refl
+number_most R.TooLate = refl
+number_most R.TagsUsedUp = refl
+number_most R.NoRoom = refl
+number_most R.NoDate = refl
+number_most R.EmptyWindow = refl
+
+pub cause_bounded : (r : Refusal) (out : List ℕ) → Bounded (refused (number r) out)
+cause_bounded r out = refused_bounded (number r) out (number_most r)
 
 pub by_rule_bounded : (n : ℕ) (form : Rule → Form) (out : List ℕ) → Bounded (written_by_rule n form out)
 unfolding written_by_rule

@@ -1,7 +1,9 @@
 -- What a call that writes a line returns and leaves in the lent buffer, for every form, its numbers within their limits or not, and every buffer:
 -- document 02, order 1.
-use Rattle.std.specs.Prelude.{true, List, [], ◌∷◌, ◌++◌, ℕ, eqb, ltb, length, drop}
+use Rattle.std.specs.Prelude.{true, List, [], ◌∷◌, ◌++◌, ℕ, Result, Ok, Err, eqb, ltb, length, drop}
 use Rattle.bits.specs.Choice.{choose}
+use Rattle.refusal.specs.declared.Refusal.{Refusal}
+use Rattle.refusal.specs.Refusal.{number_of}
 use Rattle.rules.specs.Rules.{rule_number}
 use Rattle.rules.specs.declared.Rule.{Rule}
 use Rattle.rules.specs.declared.Rule.TheVariants.{Im, Mm}
@@ -18,6 +20,14 @@ pub record WriteResult : Type 0 where
 
 abbrev pub write_result : ℕ → ℕ → List ℕ → WriteResult
 write_result n l out = record { number = n; length = l; buffer = out }
+
+-- A line that is written has a length, and no number; a refusal has its number, and length 0.
+abbrev pub length_of : Result ℕ Refusal → ℕ
+length_of (Ok l) = l
+length_of (Err r) = 0
+
+abbrev pub write_result_of : Result ℕ Refusal → List ℕ → WriteResult
+write_result_of written out = write_result (number_of written) (length_of written) out
 
 -- 'Refusals 2 and 10 apply to it, 10 first', 10 being 'lent output under 256 bytes'; 'Commands added later join in, with the refusals that
 -- they have before 3': those causes come after 10.

@@ -1,29 +1,28 @@
 // Lines by their layout: two numbers and edges, a number and two times, one number, a word alone. Nothing is put before every test has passed.
 ghost use Rattle.std.specs.Prelude.{◌≡◌, not, true, [], ◌∷◌, ◌≤◌, length};
+ghost use Rattle.refusal.specs.Refusal.{number_of};
 ghost use Rattle.writing.specs.Puts.{Puts};
 ghost use Rattle.command.specs.Causes.{cause, first};
-ghost use Rattle.form_lines.specs.Written.{write_result, writes};
+ghost use Rattle.form_lines.specs.Written.{write_result_of, writes};
 ghost use Rattle.form_lines.specs.Lines.{edged_end, edged_line, timed_end, timed_line, numbered_line};
 
-use crate::Written;
 use digits::write::put_number;
 use moment::Interval;
+use refusal::Refusal;
 use text::output::put_bytes;
-use writing::{LEAST_OUTPUT, NO_ROOM, put_pair};
-
-pub(crate) const OUTSIDE_LIMITS: u8 = 2;
+use writing::{LEAST_OUTPUT, put_pair};
 
 // 10 if the buffer is too short, then 2 if a limit is broken.
-fn refusal_of(short: bool, kept: bool) -> u8
-    ensures { result ≡ first (cause 10 short ∷ cause 2 (not kept) ∷ []) }
+fn tested(short: bool, kept: bool) -> Result<(), Refusal>
+    ensures { number_of result ≡ first (cause 10 short ∷ cause 2 (not kept) ∷ []) }
 {
     if short {
-        return NO_ROOM;
+        return Err(Refusal::NoRoom);
     }
     if !kept {
-        return OUTSIDE_LIMITS;
+        return Err(Refusal::OutsideLimits);
     }
-    0
+    Ok(())
 }
 
 // `N (LOWER UPPER))`, the end of a line with edges
@@ -45,20 +44,17 @@ pub(crate) fn write_edged(
     between: &[u8],
     n: u64,
     edges: Interval,
-) -> Written
+) -> Result<usize, Refusal>
     requires word_len_bound { length word.now ≤ 16 }
     requires between_len_bound { length between.now ≤ 16 }
-    ensures { write_result result.number result.length out.new ≡ writes (cause 2 (not kept) ∷ []) (edged_line word.now m between.now n edges) out.old }
+    ensures { write_result_of result out.new ≡ writes (cause 2 (not kept) ∷ []) (edged_line word.now m between.now n edges) out.old }
 {
-    let number = refusal_of(out.len() < LEAST_OUTPUT, kept);
-    if number != 0 {
-        return Written { number, length: 0 };
-    }
+    tested(out.len() < LEAST_OUTPUT, kept)?;
     let at = put_bytes(out, 0, word);
     let at = put_number(out, at, m);
     let at = put_bytes(out, at, between);
     let length = put_end(out, at, n, edges);
-    Written { number: 0, length }
+    Ok(length)
 }
 
 // `N (FIRST SECOND))`, the end of a line with flight times
@@ -81,43 +77,39 @@ pub(crate) fn write_timed(
     n: u64,
     first: u64,
     second: u64,
-) -> Written
+) -> Result<usize, Refusal>
     requires { length word.now ≤ 16 }
-    ensures { write_result result.number result.length out.new ≡ writes (cause 2 (not kept) ∷ []) (timed_line word.now n first second) out.old }
+    ensures { write_result_of result out.new ≡ writes (cause 2 (not kept) ∷ []) (timed_line word.now n first second) out.old }
 {
-    let number = refusal_of(out.len() < LEAST_OUTPUT, kept);
-    if number != 0 {
-        return Written { number, length: 0 };
-    }
+    tested(out.len() < LEAST_OUTPUT, kept)?;
     let at = put_bytes(out, 0, word);
     let length = put_times(out, at, n, first, second);
-    Written { number: 0, length }
+    Ok(length)
 }
 
 // `WORD N)`
-pub(crate) fn write_numbered(out: &mut [u8], kept: bool, word: &[u8], n: u64) -> Written
+pub(crate) fn write_numbered(
+    out: &mut [u8],
+    kept: bool,
+    word: &[u8],
+    n: u64,
+) -> Result<usize, Refusal>
     requires { length word.now ≤ 16 }
-    ensures { write_result result.number result.length out.new ≡ writes (cause 2 (not kept) ∷ []) (numbered_line word.now n) out.old }
+    ensures { write_result_of result out.new ≡ writes (cause 2 (not kept) ∷ []) (numbered_line word.now n) out.old }
 {
-    let number = refusal_of(out.len() < LEAST_OUTPUT, kept);
-    if number != 0 {
-        return Written { number, length: 0 };
-    }
+    tested(out.len() < LEAST_OUTPUT, kept)?;
     let at = put_bytes(out, 0, word);
     let at = put_number(out, at, n);
     let length = put_bytes(out, at, b")");
-    Written { number: 0, length }
+    Ok(length)
 }
 
 // a word alone, which has no limit to break
-pub(crate) fn write_bare(out: &mut [u8], word: &[u8]) -> Written
+pub(crate) fn write_bare(out: &mut [u8], word: &[u8]) -> Result<usize, Refusal>
     requires { length word.now ≤ 16 }
-    ensures { write_result result.number result.length out.new ≡ writes (cause 2 (not true) ∷ []) word.now out.old }
+    ensures { write_result_of result out.new ≡ writes (cause 2 (not true) ∷ []) word.now out.old }
 {
-    let number = refusal_of(out.len() < LEAST_OUTPUT, true);
-    if number != 0 {
-        return Written { number, length: 0 };
-    }
+    tested(out.len() < LEAST_OUTPUT, true)?;
     let length = put_bytes(out, 0, word);
-    Written { number: 0, length }
+    Ok(length)
 }

@@ -2,6 +2,7 @@
 #![tactic(auto)]
 
 ghost use Rattle.std.specs.Prelude.{◌≡◌, ◌∷◌, ◌≤◌, length};
+ghost use Rattle.refusal.specs.Refusal.{number_of};
 ghost use Rattle.text.specs.Output.{Put};
 ghost use Rattle.dates.specs.DateText.{Fits};
 ghost use Rattle.writing.specs.Puts.{least_output};
@@ -10,23 +11,21 @@ ghost use Rattle.command.specs.Spelling.{plain_spelling};
 ghost use Rattle.command.specs.Causes.{cause, first, form_causes};
 
 use calendar::Date;
-use command::windows::{WindowSpan, window_span};
+use command::windows::window_span;
 use dates::write::put_date;
 use digits::write::put_number;
+use refusal::Refusal;
 use text::output::put_bytes;
-use writing::NO_ROOM;
 
 // 10 if the buffer is too short, then the window's own refusals: 2, 11, 12.
-pub fn window_refusal(short: bool, slot: u64, start: Date, end: Date) -> u8
-    ensures { result ≡ first (cause 10 short ∷ form_causes (window slot start end)) }
+pub fn window_refusal(short: bool, slot: u64, start: Date, end: Date) -> Result<(), Refusal>
+    ensures { number_of result ≡ first (cause 10 short ∷ form_causes (window slot start end)) }
 {
     if short {
-        return NO_ROOM;
+        return Err(Refusal::NoRoom);
     }
-    match window_span(slot, start, end) {
-        WindowSpan::Of(_) => 0,
-        WindowSpan::Refused(number) => number,
-    }
+    window_span(slot, start, end)?;
+    Ok(())
 }
 
 // `(window SLOT (START END))` at the front, where there is room for every line. The fields of the dates fit their places, as those of a date that

@@ -1,18 +1,10 @@
--- , by the number of the rule.
-use borrow.Author.Tests.{eq-eqb, ne_eqb}
-use Rattle.form_lines.specs.Written.{written_by_rule}
+-- By whether a rule has the number.
+use mathlib.Core.Path.{sym, ◌∙◌}
+use Rattle.form_lines.proofs.WrittenLaws.{by_rule_ok, by_rule_err}
 use Rattle.form_lines.proofs.write_start_with_rule_number.Goals as goal
 
-pub returns-then-rule-eq0 : goal.returns-then-rule-eq0
-unfolding written_by_rule
-returns-then-rule-eq0 c = rw (eq-eqb _ 0 c.if-rule-eq0.true) c.write_start.ensures
+pub returns-in-Ok : goal.returns-in-Ok
+returns-in-Ok c = by_rule_ok _ _ _ (sym c.try_from.ensures ∙ c.in-Ok.is) c.write_start.ensures
 
-pub returns-then-rule-eq1 : goal.returns-then-rule-eq1
-unfolding written_by_rule
-returns-then-rule-eq1 c =
-    rw (ne_eqb _ 0 c.if-rule-eq0.false, eq-eqb _ 1 c.if-rule-eq1.true) c.write_start-then-rule-eq1.ensures
-
-pub returns : goal.returns
-unfolding written_by_rule
-returns c =
-    rw (ne_eqb _ 0 c.if-rule-eq0.false, ne_eqb _ 1 c.if-rule-eq1.false) c.refuse.ensures
+pub returns-in-Err : goal.returns-in-Err
+returns-in-Err c = by_rule_err _ _ _ (sym c.try_from.ensures ∙ c.in-Err.is) c.refuse.ensures

@@ -1,16 +1,18 @@
--- Refused by the number, or the parts one after the other, at most 16 + 65 bytes.
-use mathlib.Core.Path.{sym, ◌∙◌}
+-- Refused by its cause, or the parts one after the other, at most 16 + 65 bytes.
+use Rattle.std.proofs.lemmas.Result.{err_from_is_err_and}
 use native.Mathlib.Omega.{arith}
 use lib.ListN.{length-append}
 use Rattle.writing.proofs.PutsLaws.{one_put, ◌then◌}
 use Rattle.form_lines.specs.Written.{write_refusal}
 use Rattle.form_lines.specs.Lines.{timed_line}
-use Rattle.form_lines.proofs.WrittenLaws.{writes_refused, writes_put}
+use Rattle.form_lines.proofs.WrittenLaws.{writes_err, passed, writes_put}
 use Rattle.form_lines.proofs.layouts.write_timed.Goals as goal
 
-pub returns-then-number-ne0 : goal.returns-then-number-ne0
+pub returns-in_err-tested : goal.returns-in_err-tested
 unfolding write_refusal
-returns-then-number-ne0 c = writes_refused _ _ _ _ c.refusal_of-number.ensures c.if-number-ne0.true
+returns-in_err-tested c =
+    let p = err_from_is_err_and c.from_residual.result c.from_residual.ensures.1 in
+    rw (p.1, p.2) (writes_err _ _ _ c.in_err-tested.was c.tested.ensures)
 
 pub returns : goal.returns
 unfolding write_refusal timed_line
@@ -21,6 +23,6 @@ returns c =
     _
     _
     _
-    (sym c.refusal_of-number.ensures ∙ c.if-number-ne0.false)
+    (passed _ _ c.in_ok-tested.was c.tested.ensures)
     (simp length-append (omega (arith, c.requires, c.put_times-length.ensures.1)))
     (one_put c.put_bytes-at.ensures then c.put_times-length.ensures.0)

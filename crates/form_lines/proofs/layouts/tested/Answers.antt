@@ -1,6 +1,6 @@
 -- The two tests in their order.
 use Rattle.command.specs.Causes.{first}
-use Rattle.form_lines.proofs.layouts.refusal_of.Goals as goal
+use Rattle.form_lines.proofs.layouts.tested.Goals as goal
 
 pub returns-then-short : goal.returns-then-short
 unfolding first
