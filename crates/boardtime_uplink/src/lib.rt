@@ -3,11 +3,14 @@
 // archive of its own: in that of a board the reader would be called in two places, and each line would cost the board more.
 #![tactic(auto)]
 
+ghost use Rattle.std.specs.Prelude.{◌≡◌, ◌+◌, ◌*◌, ◌≤◌};
+ghost use Rattle.refusal.specs.Refusal.{number_of};
 ghost use Rattle.moment.specs.Intervals.{interval};
 ghost use Rattle.calendar.specs.Conversion.{date_in};
 ghost use Rattle.command.specs.Forms.{start, pass, request, reply, drop, read, waiting, window, flight};
 ghost use Rattle.reader.specs.Reading.{reading_of};
-ghost use Rattle.form_lines.specs.Written.{written_form, written_by_rule};
+ghost use Rattle.writing.specs.Puts.{least_output};
+ghost use Rattle.form_lines.specs.Written.{length_of, written_form, written_by_rule};
 ghost use Rattle.writer.specs.Written.{written_reading};
 ghost use Rattle.boardtime_uplink.specs.Commands.{Returns};
 
@@ -18,8 +21,20 @@ use form_lines::{
 };
 use moment::Interval;
 use reader::read_command;
+use refusal::Refusal;
 use writer::write_reading;
 use writing::returned;
+
+// The number of a refusal, or 0 and the length, as one number.
+fn returned_of(written: Result<usize, Refusal>) -> u32
+    requires { length_of written ≤ least_output }
+    ensures { result ≡ number_of written + 256 * length_of written }
+{
+    match written {
+        Ok(length) => returned(0, length),
+        Err(refusal) => returned(refusal.number(), 0),
+    }
+}
 
 #[unsafe(no_mangle)]
 pub extern "C" fn boardtime_write_start(
@@ -33,24 +48,21 @@ pub extern "C" fn boardtime_write_start(
     ensures { Returns (written_by_rule rule (λ x. start board x claim (interval lower upper)) out.old) result out.new }
 {
     let edges = Interval { lower, upper };
-    let written = write_start_with_rule_number(out, board, rule, claim, edges);
-    returned(written.number, written.length)
+    returned_of(write_start_with_rule_number(out, board, rule, claim, edges))
 }
 
 #[unsafe(no_mangle)]
 pub extern "C" fn boardtime_write_pass(out: &mut [u8], ticks: u64) -> u32
     ensures { Returns (written_form (pass ticks) out.old) result out.new }
 {
-    let written = write_pass(out, ticks);
-    returned(written.number, written.length)
+    returned_of(write_pass(out, ticks))
 }
 
 #[unsafe(no_mangle)]
 pub extern "C" fn boardtime_write_request(out: &mut [u8], peer: u64) -> u32
     ensures { Returns (written_form (request peer) out.old) result out.new }
 {
-    let written = write_request(out, peer);
-    returned(written.number, written.length)
+    returned_of(write_request(out, peer))
 }
 
 #[unsafe(no_mangle)]
@@ -67,32 +79,28 @@ pub extern "C" fn boardtime_write_reply(
         lower: trailing,
         upper: leading,
     };
-    let written = write_reply(out, peer, tag, edges);
-    returned(written.number, written.length)
+    returned_of(write_reply(out, peer, tag, edges))
 }
 
 #[unsafe(no_mangle)]
 pub extern "C" fn boardtime_write_drop(out: &mut [u8], peer: u64) -> u32
     ensures { Returns (written_form (drop peer) out.old) result out.new }
 {
-    let written = write_drop(out, peer);
-    returned(written.number, written.length)
+    returned_of(write_drop(out, peer))
 }
 
 #[unsafe(no_mangle)]
 pub extern "C" fn boardtime_write_read(out: &mut [u8]) -> u32
     ensures { Returns (written_form read out.old) result out.new }
 {
-    let written = write_read(out);
-    returned(written.number, written.length)
+    returned_of(write_read(out))
 }
 
 #[unsafe(no_mangle)]
 pub extern "C" fn boardtime_write_waiting(out: &mut [u8]) -> u32
     ensures { Returns (written_form waiting out.old) result out.new }
 {
-    let written = write_waiting(out);
-    returned(written.number, written.length)
+    returned_of(write_waiting(out))
 }
 
 // A date is six numbers: year, month, day, hour, minute, second.
@@ -105,10 +113,9 @@ pub extern "C" fn boardtime_write_window(
 ) -> u32
     ensures { Returns (written_form (window slot (date_in start.now) (date_in end.now)) out.old) result out.new }
 {
-    let start_date = date_from(start[0], start[1], start[2], start[3], start[4], start[5]);
-    let end_date = date_from(end[0], end[1], end[2], end[3], end[4], end[5]);
-    let written = write_window(out, slot, start_date, end_date);
-    returned(written.number, written.length)
+    let start_date = date_from(start);
+    let end_date = date_from(end);
+    returned_of(write_window(out, slot, start_date, end_date))
 }
 
 #[unsafe(no_mangle)]
@@ -120,8 +127,7 @@ pub extern "C" fn boardtime_write_flight(
 ) -> u32
     ensures { Returns (written_form (flight peer out_time back_time) out.old) result out.new }
 {
-    let written = write_flight(out, peer, out_time, back_time);
-    returned(written.number, written.length)
+    returned_of(write_flight(out, peer, out_time, back_time))
 }
 
 // Writes the plain spelling of the command that a line is read as. A buffer that is too short is refused before the line's own refusals.
@@ -129,7 +135,5 @@ pub extern "C" fn boardtime_write_flight(
 pub extern "C" fn boardtime_plain(line: &[u8], out: &mut [u8]) -> u32
     ensures { Returns (written_reading (reading_of line.now) out.old) result out.new }
 {
-    let reading = read_command(line);
-    let written = write_reading(out, reading);
-    returned(written.number, written.length)
+    returned_of(write_reading(out, read_command(line)))
 }

@@ -1,18 +1,17 @@
 -- Laws of a command and of a reading written back, by those of its form.
-use mathlib.Core.Path.{◌≡◌, refl, sym, ap, ◌∙◌}
+use mathlib.Core.Path.{◌≡◌, sym, ap, ◌∙◌}
 use mathlib.Core.List.{List, ◌++◌}
 use mathlib.Core.Logic.{◌↔◌}
 use Prim.Native.Nat.{ℕ, ◌≤◌}
 use lib.ListN.{length, drop}
 use Rattle.writing.specs.Puts.{least_output}
 use Rattle.command.specs.Spelling.{plain_spelling}
-use Rattle.command.specs.Limits.{form_of}
+use Rattle.std.specs.Prelude.{Ok, Err}
+use Rattle.command.specs.Limits.{form_of, Reading}
 use Rattle.command.specs.Causes.{first, form_causes, own_causes}
 use Rattle.command.specs.declared.Command.{Command}
-use Rattle.command.specs.declared.Reading.{Reading}
-use Rattle.command.specs.declared.Reading.TheVariants.{Accepted, NoShape, OutsideLimits}
 use Rattle.form_lines.specs.Written.{WriteResult, write_result, written_form}
-use Rattle.form_lines.proofs.WrittenLaws.{none_refusal, writes_line, form_accepts, Bounded, form_bounded, refused_bounded}
+use Rattle.form_lines.proofs.WrittenLaws.{none_refusal, writes_line, form_accepts, Bounded, form_bounded, cause_bounded}
 use Rattle.writer.specs.Written.{written, written_reading}
 
 -- by the case that a command or a reading is
@@ -36,6 +35,5 @@ written_line c out room none = writes_line (form_causes (form_of c)) (plain_spel
 
 pub reading_bounded : (r : Reading) (out : List ℕ) → Bounded (written_reading r out)
 unfolding written_reading written
-reading_bounded (Accepted c) out = form_bounded (form_of c) out
-reading_bounded NoShape out = refused_bounded 1 out refl
-reading_bounded OutsideLimits out = refused_bounded 2 out refl
+reading_bounded (Ok c) out = form_bounded (form_of c) out
+reading_bounded (Err r) out = cause_bounded r out

@@ -2,19 +2,20 @@
 #![tactic(auto)]
 
 ghost use Rattle.std.specs.Prelude.{◌≡◌};
-ghost use Rattle.form_lines.specs.Written.{write_result};
+ghost use Rattle.form_lines.specs.Written.{write_result_of};
 ghost use Rattle.writer.specs.Written.{written, written_reading};
 
 use command::{Command, Reading};
 use form_lines::{
-    Written, refuse, write_drop, write_flight, write_pass, write_read, write_reply, write_request,
+    refuse, write_drop, write_flight, write_pass, write_read, write_reply, write_request,
     write_start, write_waiting, write_window,
 };
+use refusal::Refusal;
 
 // Writes the line of a command. One with a number outside its limits, or a first edge above the second, is refused with 2; a window with a date
 // that doesn't exist with 11, one whose end isn't later than its start with 12.
-pub fn write_command(out: &mut [u8], command: Command) -> Written
-    ensures { write_result result.number result.length out.new ≡ written command out.old }
+pub fn write_command(out: &mut [u8], command: Command) -> Result<usize, Refusal>
+    ensures { write_result_of result out.new ≡ written command out.old }
 {
     match command {
         Command::Start {
@@ -38,13 +39,12 @@ pub fn write_command(out: &mut [u8], command: Command) -> Written
     }
 }
 
-// Writes back what a line was read as. Refusals 1 and 2 come after 10.
-pub fn write_reading(out: &mut [u8], reading: Reading) -> Written
-    ensures { write_result result.number result.length out.new ≡ written_reading reading out.old }
+// Writes back what a line was read as. Its own refusal comes after 10.
+pub fn write_reading(out: &mut [u8], reading: Reading) -> Result<usize, Refusal>
+    ensures { write_result_of result out.new ≡ written_reading reading out.old }
 {
     match reading {
-        Reading::Accepted(command) => write_command(out, command),
-        Reading::NoShape => refuse(out, 1),
-        Reading::OutsideLimits => refuse(out, 2),
+        Ok(command) => write_command(out, command),
+        Err(refusal) => refuse(out, refusal),
     }
 }

@@ -4,9 +4,9 @@ use Rattle.writer.proofs.CommandLaws.{reading_written, reading_bounded}
 use Rattle.boardtime_uplink.proofs.CommandLaws.{length_fits, returns_it}
 use Rattle.boardtime_uplink.proofs.boardtime_plain.Goals as goal
 
-pub returned-requires : goal.returned-requires
-returned-requires c = length_fits c.write_reading-written.ensures (reading_bounded _ _).1
+pub returned_of-requires : goal.returned_of-requires
+returned_of-requires c = length_fits c.write_reading.ensures (reading_bounded _ _).1
 
 pub returns : goal.returns
 returns c =
-    returns_it (reading_written _ (sym c.read_command-reading.ensures) c.write_reading-written.ensures) c.returned.ensures
+    returns_it (reading_written _ (sym c.read_command.ensures) c.write_reading.ensures) c.returned_of.ensures

@@ -3,8 +3,8 @@ use Rattle.form_lines.proofs.WrittenLaws.{form_bounded}
 use Rattle.boardtime_uplink.proofs.CommandLaws.{length_fits, returns_it}
 use Rattle.boardtime_uplink.proofs.boardtime_write_read.Goals as goal
 
-pub returned-requires : goal.returned-requires
-returned-requires c = length_fits c.write_read-written.ensures (form_bounded _ _).1
+pub returned_of-requires : goal.returned_of-requires
+returned_of-requires c = length_fits c.write_read.ensures (form_bounded _ _).1
 
 pub returns : goal.returns
-returns c = returns_it c.write_read-written.ensures c.returned.ensures
+returns c = returns_it c.write_read.ensures c.returned_of.ensures

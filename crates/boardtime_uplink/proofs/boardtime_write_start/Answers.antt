@@ -6,12 +6,12 @@ use Rattle.form_lines.proofs.WrittenLaws.{by_rule_bounded}
 use Rattle.boardtime_uplink.proofs.CommandLaws.{length_fits, returns_it, same_edges}
 use Rattle.boardtime_uplink.proofs.boardtime_write_start.Goals as goal
 
-pub returned-requires : goal.returned-requires
-returned-requires c = length_fits c.write_start_with_rule_number-written.ensures (by_rule_bounded _ _ _).1
+pub returned_of-requires : goal.returned_of-requires
+returned_of-requires c = length_fits c.write_start_with_rule_number.ensures (by_rule_bounded _ _ _).1
 
 pub returns : goal.returns
 returns c =
     let x = c.args in
     returns_it
-    (same_edges (λ e. written_by_rule x.rule (λ r. F.start x.board r x.claim e) x.out.now) (to_z-of_z c.ranges.lower) (to_z-of_z c.ranges.upper) c.write_start_with_rule_number-written.ensures)
-    c.returned.ensures
+    (same_edges (λ e. written_by_rule x.rule (λ r. F.start x.board r x.claim e) x.out.now) (to_z-of_z c.ranges.lower) (to_z-of_z c.ranges.upper) c.write_start_with_rule_number.ensures)
+    c.returned_of.ensures

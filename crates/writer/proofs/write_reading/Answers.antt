@@ -3,14 +3,10 @@ use Rattle.writer.specs.Written.{written_reading}
 use Rattle.writer.proofs.CommandLaws.{reading_written}
 use Rattle.writer.proofs.write_reading.Goals as goal
 
-pub returns-in-Accepted : goal.returns-in-Accepted
+pub returns-in-Ok : goal.returns-in-Ok
 unfolding written_reading
-returns-in-Accepted c = reading_written _ c.in-Accepted.is c.write_command.ensures
+returns-in-Ok c = reading_written _ c.in-Ok.is c.write_command.ensures
 
-pub returns-in-NoShape : goal.returns-in-NoShape
+pub returns-in-Err : goal.returns-in-Err
 unfolding written_reading
-returns-in-NoShape c = reading_written _ c.in-NoShape.is c.refuse.ensures
-
-pub returns-in-OutsideLimits : goal.returns-in-OutsideLimits
-unfolding written_reading
-returns-in-OutsideLimits c = reading_written _ c.in-OutsideLimits.is c.refuse-in-OutsideLimits.ensures
+returns-in-Err c = reading_written _ c.in-Err.is c.refuse.ensures
