@@ -8,17 +8,16 @@ use native.Mathlib.Omega.{arith}
 use borrow.Author.Tests.{ne_eqb}
 use lib.ListN.{length, take, drop}
 use lib.Seq.{take_at}
+use Rattle.std.specs.Prelude.{Ok}
 use Rattle.numeral.specs.Groups.{ungrouped, carries_underscore}
 use Rattle.numeral.proofs.GroupLaws.{ungrouped_same}
 use Rattle.writing.specs.Puts.{least_output}
 use Rattle.command.specs.Spelling.{plain_spelling}
 use Rattle.command.specs.Forms as F
 use Rattle.command.specs.Forms.{Form}
-use Rattle.command.specs.Limits.{keeps, form_of, command_of}
+use Rattle.command.specs.Limits.{keeps, form_of, command_of, Reading}
 use Rattle.command.specs.Causes.{first, date_causes, form_causes, own_causes}
 use Rattle.command.specs.declared.Command.{Command}
-use Rattle.command.specs.declared.Reading.{Reading}
-use Rattle.command.specs.declared.Reading.TheVariants.{Accepted}
 use Rattle.command.proofs.PlainBytes.{printable, printable_byte_lem, printable_carries, spelling_bytes}
 use Rattle.command.proofs.SpellingLaws.{spelling_plain, uncaused_keeps, plain_spells, plain_most}
 use Rattle.lines.specs.Lines.{lf, breaks}
@@ -39,7 +38,7 @@ line_is c out e =
     let all : written c out ≡ write_result 0 (length line) (line ++ drop (length line) out) = written_line c out room none in
     (ap (λ (w : WriteResult). take w.length w.buffer) all ∙ take_at line (drop (length line) out) (length line) refl, none)
 
-line_plain : (line : List ℕ) (c : Command) (out : List ℕ) → reading_of line ≡ Accepted c → NotRefused c out
+line_plain : (line : List ℕ) (c : Command) (out : List ℕ) → reading_of line ≡ Ok c → NotRefused c out
     → (written c out ≡ write_result 0 (length (ungrouped line)) (ungrouped line ++ drop (length (ungrouped line)) out)) × (ungrouped line ≡ plain_spelling (form_of c))
 line_plain line c out e accepted =
     let (shaped, kept) = ((reads_the_grammar line).command c).0 e in
@@ -47,7 +46,7 @@ line_plain line c out e accepted =
     let (room, none) = (written_accepts c out).0 accepted in
     (written_line c out room none ∙ ap (λ (s : List ℕ). write_result 0 (length s) (s ++ drop (length s) out)) (sym same), same)
 
-line_back : (line : List ℕ) (c : Command) (out : List ℕ) → reading_of line ≡ Accepted c → NotRefused c out → carries_underscore line ≡ false
+line_back : (line : List ℕ) (c : Command) (out : List ℕ) → reading_of line ≡ Ok c → NotRefused c out → carries_underscore line ≡ false
     → written c out ≡ write_result 0 (length line) (line ++ drop (length line) out)
 line_back line c out e accepted none =
     (line_plain line c out e accepted).0 ∙ ap (λ (s : List ℕ). write_result 0 (length s) (s ++ drop (length s) out)) (ungrouped_same line none)
@@ -63,21 +62,21 @@ kept_causes : (f : Form) → keeps f ≡ true → first (form_causes f) ≡ firs
 unfolding first
 kept_causes f kept = rw kept
 
-line_accepted : (line : List ℕ) (c : Command) (out : List ℕ) → reading_of line ≡ Accepted c → least_output ≤ length out
+line_accepted : (line : List ℕ) (c : Command) (out : List ℕ) → reading_of line ≡ Ok c → least_output ≤ length out
     → first (date_causes (form_of c)) ≡ 0 → NotRefused c out
 unfolding own_causes
 line_accepted line c out e room dated =
     let (shaped, kept) = ((reads_the_grammar line).command c).0 e in
     (written_accepts c out).1 (room, kept_causes (form_of c) kept ∙ dated)
 
-command_back : (c : Command) (out : List ℕ) → NotRefused c out → reading_of (line_in c out) ≡ Accepted c
+command_back : (c : Command) (out : List ℕ) → NotRefused c out → reading_of (line_in c out) ≡ Ok c
 command_back c out e =
     let (is, none) = line_is c out e in
     let short : length (plain_spelling (form_of c)) ≤ 63 = plain_most (form_of c) none in
     let shaped : Shaped (form_of c) (plain_spelling (form_of c)) = record { spelling = plain_spells (form_of c) none; short = omega arith } in
     ap reading_of is ∙ ((reads_the_grammar (plain_spelling (form_of c))).command c).1 (shaped, uncaused_keeps (form_of c) none)
 
-same_command : (c d : Command) → ◌≡◌ {A = Reading} (Accepted c) (Accepted d) → c ≡ d
+same_command : (c d : Command) → ◌≡◌ {A = Reading} (Ok c) (Ok d) → c ≡ d
 same_command c d e = cc
 
 form_line : (f : Form) (out : List ℕ) → written_form f out ≡ written (command_of f) out

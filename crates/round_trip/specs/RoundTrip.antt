@@ -1,6 +1,6 @@
 -- Document 02, orders 1 and 4: the reader's answer (`reading_of`, in the contract of `read_command`) and what the writer returns and leaves (`written`, in
 -- the contract of `write_command`), held against each other.
-use Rattle.std.specs.Prelude.{◌≡◌, false, List, ◌++◌, ◌↔◌, ℕ, ◌≤◌, length, take, drop}
+use Rattle.std.specs.Prelude.{◌≡◌, false, List, ◌++◌, ◌↔◌, ℕ, ◌≤◌, length, take, drop, Ok}
 use Rattle.numeral.specs.Groups.{ungrouped, carries_underscore}
 use Rattle.writing.specs.Puts.{least_output}
 use Rattle.command.specs.Forms.{Form}
@@ -8,7 +8,6 @@ use Rattle.command.specs.Limits.{form_of, command_of}
 use Rattle.command.specs.Spelling.{plain_spelling}
 use Rattle.command.specs.Causes.{first, date_causes, own_causes}
 use Rattle.command.specs.declared.Command.{Command}
-use Rattle.command.specs.declared.Reading.TheVariants.{Accepted}
 use Rattle.lines.specs.Lines.{breaks}
 use Rattle.reader.specs.Reading.{reading_of}
 use Rattle.form_lines.specs.Written.{write_result, written_form}
@@ -25,17 +24,17 @@ line_in c out = take (written c out).length (written c out).buffer
 pub record RoundTrip : Type 0 where
   -- Order 4: 'a line read and written gives the plain spelling'. Every line that is read as a command, whether a keeper refuses it or not, is written
   -- without its `_` at the front of every buffer in which the command is not refused, and that is the plain spelling of its form.
-  pub line_plain : (line : List ℕ) (c : Command) (out : List ℕ) → reading_of line ≡ Accepted c → NotRefused c out
+  pub line_plain : (line : List ℕ) (c : Command) (out : List ℕ) → reading_of line ≡ Ok c → NotRefused c out
       → (written c out ≡ write_result 0 (length (ungrouped line)) (ungrouped line ++ drop (length (ungrouped line)) out)) × (ungrouped line ≡ plain_spelling (form_of c))
   -- 'Each accepted line, read and written, gives the same bytes', if it carries no `_`
-  pub line_back : (line : List ℕ) (c : Command) (out : List ℕ) → reading_of line ≡ Accepted c → NotRefused c out → carries_underscore line ≡ false
+  pub line_back : (line : List ℕ) (c : Command) (out : List ℕ) → reading_of line ≡ Ok c → NotRefused c out → carries_underscore line ≡ false
       → written c out ≡ write_result 0 (length line) (line ++ drop (length line) out)
   -- A buffer with room is such a buffer for every line that is accepted: what is read as a command is within its limits, so that of 'the refusals
   -- that they have before 3' only those of its dates are left, 11 and 12. No command but a window has any.
-  pub line_accepted : (line : List ℕ) (c : Command) (out : List ℕ) → reading_of line ≡ Accepted c → least_output ≤ length out
+  pub line_accepted : (line : List ℕ) (c : Command) (out : List ℕ) → reading_of line ≡ Ok c → least_output ≤ length out
       → first (date_causes (form_of c)) ≡ 0 → NotRefused c out
   -- 'Each command that it doesn't refuse, written and read, gives the same command.'
-  pub command_back : (c : Command) (out : List ℕ) → NotRefused c out → reading_of (line_in c out) ≡ Accepted c
+  pub command_back : (c : Command) (out : List ℕ) → NotRefused c out → reading_of (line_in c out) ≡ Ok c
   -- 'Two such commands have equal lines exactly when they are equal.'
   pub same_line : (c d : Command) (out out' : List ℕ) → NotRefused c out → NotRefused d out' → (line_in c out ≡ line_in d out') ↔ (c ≡ d)
   -- 'The writer of order 1 never writes `_`'
