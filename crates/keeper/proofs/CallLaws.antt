@@ -1,10 +1,13 @@
 -- What a command does, from the number of its refusal; and that number, from the causes that were tried.
-use mathlib.Core.Path.{◌≡◌, refl, sym}
+use mathlib.Core.Path.{◌≡◌, refl, sym, ◌∙◌}
 use mathlib.Core.Bool.{true, false, ◌&&◌}
 use mathlib.Core.List.{List, [], ◌∷◌, ◌++◌}
 use Prim.Native.Nat.{ℕ, ◌≤◌}
-use borrow.Author.Tests.{ne_eqb, not-false, ltb-false}
+use borrow.Author.Tests.{eqb-false, not-false, ltb-false}
 use lib.Dec.{eqb}
+use Rattle.refusal.specs.declared.Refusal.{Refusal}
+use Rattle.refusal.specs.Refusal.{number}
+use Rattle.refusal.proofs.Numbers.{not_zero}
 use Rattle.bits.specs.Bits.{bit_of}
 use Rattle.bits.proofs.Tests.{both}
 use Rattle.moment.specs.declared.Interval.{Interval}
@@ -32,9 +35,9 @@ module _ (k : Keeper) (c : Command) where
   unfolding apply
   apply_accepted e = rw e
 
-  -- the same, of a number that was found to be some
-  pub apply_number_refused : (n : ℕ) → (n ≡ 0 → ⊥) → n ≡ refusal (state_of k) c → outcome_of (A.Refused n) k ≡ apply k c
-  apply_number_refused n some e = sym (apply_refused n (ne_eqb n 0 some) (sym e))
+  -- the same, of a refusal that was found
+  pub apply_err : (r : Refusal) → number r ≡ refusal (state_of k) c → outcome_of (A.Refused (number r)) k ≡ apply k c
+  apply_err r e = sym (apply_refused (number r) (not_zero r) (sym e))
 
 -- a command's own cause, and that of one without dates
 module _ (rest : List Cause) (c : Command) where
@@ -51,6 +54,10 @@ module _ (s : State) (peer : ℕ) (rest : List Cause) where
   pub peer_holds : (first (peer_causes s peer) ≡ 0 → ⊥) → first (peer_causes s peer ++ rest) ≡ first (peer_causes s peer)
   peer_holds some = first_front (peer_causes s peer) rest some
 
+  -- the same, of a refusal that was found
+  pub peer_err : (r : Refusal) → number r ≡ first (peer_causes s peer) → number r ≡ first (peer_causes s peer ++ rest)
+  peer_err r e = e ∙ sym (peer_holds (λ z. eqb-false _ _ (not_zero r) (e ∙ z)))
+
   pub peer_past : first (peer_causes s peer) ≡ 0 → first (peer_causes s peer ++ rest) ≡ first rest
   unfolding numbered
   peer_past none = first_rest (peer_causes s peer) rest refl none
@@ -63,6 +70,10 @@ module _ (s : State) (peer tag : ℕ) (reply : Interval) where
   pub reply_holds : (first before ≡ 0 → ⊥) → refusal s (C.Reply peer tag reply) ≡ first before
   unfolding refusal causes keeper_causes own_causes
   reply_holds some = first_front before _ some
+
+  -- the same, of a refusal that was found
+  pub reply_err : (r : Refusal) → number r ≡ first before → number r ≡ refusal s (C.Reply peer tag reply)
+  reply_err r e = e ∙ sym (reply_holds (λ z. eqb-false _ _ (not_zero r) (e ∙ z)))
 
   -- where none of them holds, the verdict decides
   none_before : first before ≡ 0 → NoneHolds before

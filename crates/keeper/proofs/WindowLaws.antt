@@ -1,12 +1,14 @@
 -- The answer to a window, by its span: its own refusals, then 3, then the word; and that it is what the command does.
-use mathlib.Core.Path.{◌≡◌, refl}
+use mathlib.Core.Path.{◌≡◌, refl, sym, ◌∙◌}
 use mathlib.Core.Bool.{Bool, true, false, not}
 use mathlib.Core.List.{List, [], ◌∷◌, ◌++◌}
 use Prim.Native.Nat.{ℕ}
-use native.Mathlib.Omega.{arith}
-use borrow.Author.Tests.{eqb-true, eqb-false}
+use borrow.Author.Tests.{eqb-false}
 use lib.Dec.{eqb}
-use Rattle.bits.specs.Choice.{choose}
+use Rattle.std.specs.Prelude.{Ok, Err}
+use Rattle.refusal.specs.Refusal.{number}
+use Rattle.refusal.specs.declared.Refusal.{Refusal}
+use Rattle.refusal.proofs.Numbers.{not_zero}
 use Rattle.bits.proofs.Tests.{by_test}
 use Rattle.moment.specs.declared.Interval.{Interval}
 use Rattle.calendar.specs.declared.Date.{Date}
@@ -15,8 +17,7 @@ use Rattle.rules.specs.Windows.{window_state}
 use Rattle.command.specs.Forms as F
 use Rattle.command.specs.Causes.{Cause, cause, first, form_causes, own_causes}
 use Rattle.command.specs.Windows.{span_of, window_span}
-use Rattle.command.specs.declared.windows.WindowSpan.{WindowSpan}
-use Rattle.command.specs.declared.windows.WindowSpan.TheVariants as S
+use Rattle.command.proofs.SpanLaws.{span_caused, span_uncaused}
 use Rattle.command.specs.declared.Command.TheVariants as C
 use Rattle.command.proofs.CauseLaws.{numbered, first_front, first_rest}
 use Rattle.keeper.specs.State.{state_of, counts_as_started}
@@ -30,49 +31,29 @@ module _ (slot : ℕ) (begins ends : Date) where
   abbrev own : List Cause
   own = form_causes (F.window slot begins ends)
 
-  abbrev span_by : Bool → WindowSpan
-  span_by t = choose t (λ _. S.Of (span_of begins ends)) (λ _. S.Refused (first own))
-
-  -- what a span says of the window's own causes
-  refused_is : (n : ℕ) → window_span slot begins ends ≡ S.Refused n → (n ≡ first own) × (first own ≡ 0 → ⊥)
-  unfolding window_span
-  refused_is n h = go (eqb (first own) 0) refl h
-    where
-      go : (t : Bool) → eqb (first own) 0 ≡ t → span_by t ≡ S.Refused n → (n ≡ first own) × (first own ≡ 0 → ⊥)
-      go true e h = absurd (let k : ◌≡◌ {A = ℕ} 0 1 = cc in omega arith)
-      go false e h = (cc, eqb-false (first own) 0 e)
-
-  span_none : (w : Interval) → window_span slot begins ends ≡ S.Of w → (w ≡ span_of begins ends) × (first own ≡ 0)
-  unfolding window_span
-  span_none w h = go (eqb (first own) 0) refl h
-    where
-      go : (t : Bool) → eqb (first own) 0 ≡ t → span_by t ≡ S.Of w → (w ≡ span_of begins ends) × (first own ≡ 0)
-      go true e h = (cc, eqb-true (first own) 0 e)
-      go false e h = absurd (let k : ◌≡◌ {A = ℕ} 0 1 = cc in omega arith)
-
   module _ (edges : Interval) where
-    pub answer_refused : (started : Bool) (n : ℕ) → window_span slot begins ends ≡ S.Refused n → A.Refused n ≡ window_answer started edges slot begins ends
+    pub answer_refused : (started : Bool) (r : Refusal) → window_span slot begins ends ≡ Err r → A.Refused (number r) ≡ window_answer started edges slot begins ends
     unfolding window_answer
-    answer_refused started n h =
-        let (is, some) = refused_is n h in
-        let all = first_front own (cause 3 (not started) ∷ []) some in
-        rw (all, is) (by_test (eqb (first own) 0) (λ e. absurd (some (eqb-true (first own) 0 e))) (λ e. rw e))
+    answer_refused started r h =
+        let is : first own ≡ number r = span_caused slot begins ends r h in
+        let all = first_front own (cause 3 (not started) ∷ []) (λ e. eqb-false _ _ (not_zero r) (sym is ∙ e)) in
+        rw (all, is, not_zero r)
 
     past_own : (started : Bool) → first own ≡ 0 → first (own ++ cause 3 (not started) ∷ []) ≡ first (cause 3 (not started) ∷ [])
     unfolding numbered
     past_own started none = first_rest own (cause 3 (not started) ∷ []) refl none
 
-    pub answer_not_started : {started : Bool} (w : Interval) → started ≡ false → window_span slot begins ends ≡ S.Of w → A.Refused 3 ≡ window_answer started edges slot begins ends
+    pub answer_not_started : {started : Bool} (w : Interval) → started ≡ false → window_span slot begins ends ≡ Ok w → A.Refused 3 ≡ window_answer started edges slot begins ends
     unfolding window_answer first
     answer_not_started {started} w off h =
-        let (is, none) = span_none w h in
+        let (is, none) = span_uncaused slot begins ends w h in
         rw (past_own started none, off)
 
-    pub answer_heater : {started : Bool} (w : Interval) → started ≡ true → window_span slot begins ends ≡ S.Of w
+    pub answer_heater : {started : Bool} (w : Interval) → started ≡ true → window_span slot begins ends ≡ Ok w
         → A.Heater slot (window_state w edges) ≡ window_answer started edges slot begins ends
     unfolding window_answer first
     answer_heater {started} w on h =
-        let (is, none) = span_none w h in
+        let (is, none) = span_uncaused slot begins ends w h in
         rw (past_own started none, on, is)
 
   -- the keeper stays as it was, whatever is answered

@@ -9,6 +9,7 @@ pub mod number;
 mod refusals;
 mod started;
 pub mod steps;
+pub mod tested;
 mod windows;
 
 // Of each other board (a peer, 0..15): its bit of `waiting` is set while a request to it waits, with the request's tag and the tick

@@ -15,56 +15,39 @@ pub const MOST_TICKS: u64 = 4000000000000000000;
 pub const MOST_REQUESTS: u32 = 16777215;
 
 // The numbers that are no peer's are within their limits and the edges in order.
+#[tactic(auto, unfolding(crate::specs::State::numbers_kept))]
 fn numbers_kept(board: u8, claim: u16, edges: Interval, ticks: u64, requests: u32) -> bool
     ensures { result ≡ numbers_kept board claim edges ticks requests }
 {
-    if !board_within(board as u64) {
-        return false;
-    }
-    if !claim_within(claim as u64) {
-        return false;
-    }
-    if !edges_within(edges) {
-        return false;
-    }
-    if MOST_TICKS < ticks {
-        return false;
-    }
-    requests <= MOST_REQUESTS
+    board_within(board as u64)
+        && claim_within(claim as u64)
+        && edges_within(edges)
+        && ticks <= MOST_TICKS
+        && requests <= MOST_REQUESTS
 }
 
 impl Keeper {
     // Not every keeper that a caller can make is one that a run makes: one that is not is as one not started.
+    #[tactic(auto, unfolding(crate::specs::State::counts_as_started))]
     pub fn counts_as_started(self) -> bool
         ensures { result ≡ counts_as_started self }
     {
-        if !self.started {
-            return false;
-        }
-        if !numbers_kept(
-            self.board,
-            self.claim,
-            self.edges,
-            self.ticks,
-            self.requests,
-        ) {
-            return false;
-        }
-        let outstanding = count_of(self.waiting) as u64;
-        if (self.requests as u64) < (self.conflicts as u64) + outstanding {
-            return false;
-        }
-        if bit_of(self.waiting, self.board) {
-            return false;
-        }
         // The arrays are lent from locals of their own: to lend a field of `self`, all of `self` would be copied first.
         let tags = self.tags;
         let sent_at = self.sent_at;
-        if !peers_kept(self.waiting, self.requests, self.ticks, &tags, &sent_at) {
-            return false;
-        }
         let out = self.out;
         let back = self.back;
-        flights_kept(&out, &back)
+        self.started
+            && numbers_kept(
+                self.board,
+                self.claim,
+                self.edges,
+                self.ticks,
+                self.requests,
+            )
+            && (self.conflicts as u64) + (count_of(self.waiting) as u64) <= self.requests as u64
+            && !bit_of(self.waiting, self.board)
+            && peers_kept(self.waiting, self.requests, self.ticks, &tags, &sent_at)
+            && flights_kept(&out, &back)
     }
 }

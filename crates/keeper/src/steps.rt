@@ -1,20 +1,22 @@
 // What an accepted command changes in a keeper. The calls test before they step, so each of these may ask for what was tested.
 ghost use Rattle.std.specs.Prelude.{◌≡◌, true, false, ◌≤◌, ◌<◌, ◌^◌};
 ghost use Rattle.bits.specs.Bits.{bit_of};
+ghost use Rattle.refusal.specs.Refusal.{number};
 ghost use Rattle.keeper.specs.State.{most_requests};
 ghost use Rattle.keeper.specs.Apply.{outcome_of, begun, passed_to, asked, ended, replied, with_flight};
 ghost use Rattle.keeper.specs.declared.Answer.TheVariants.{Refused};
 
 use crate::{Answer, Keeper, Outcome};
 use moment::Interval;
+use refusal::Refusal;
 use rules::judge::conflicts_after;
 use rules::{Rule, Verdict};
 
 // A refusal: the keeper stays as it was.
-pub(crate) fn refused(keeper: Keeper, number: u8) -> Outcome
-    ensures { result ≡ outcome_of (Refused number) keeper }
+pub(crate) fn refused(keeper: Keeper, refusal: Refusal) -> Outcome
+    ensures { result ≡ outcome_of (Refused (number refusal)) keeper }
 {
-    let answer = Answer::Refused(number);
+    let answer = Answer::Refused(refusal.number());
     Outcome { answer, keeper }
 }
 
@@ -28,18 +30,12 @@ pub fn begun_with(board: u8, rule: Rule, claim: u16, edges: Interval) -> Keeper
         rule,
         claim,
         edges,
-        ticks: 0,
-        requests: 0,
-        conflicts: 0,
-        waiting: 0,
-        tags: [0u32; 16],
-        sent_at: [0u64; 16],
-        out: [0u32; 16],
-        back: [0u32; 16],
+        ..Keeper::fresh()
     }
 }
 
 // The keeper with other flight times of the peer.
+#[tactic(auto, unfolding(crate::specs::Apply::with_flight))]
 pub(crate) fn with_flight(keeper: Keeper, peer: u8, out_time: u32, back_time: u32) -> Keeper
     requires { peer ≤ 15 }
     ensures { result ≡ with_flight keeper peer out_time back_time }
@@ -48,10 +44,11 @@ pub(crate) fn with_flight(keeper: Keeper, peer: u8, out_time: u32, back_time: u3
     out[peer as usize] = out_time;
     let mut back = keeper.back;
     back[peer as usize] = back_time;
-    let mut next = keeper;
-    next.out = out;
-    next.back = back;
-    next
+    Keeper {
+        out,
+        back,
+        ..keeper
+    }
 }
 
 // The mask of one peer.
@@ -74,12 +71,13 @@ pub(crate) fn asked_of(keeper: Keeper, peer: u8) -> Keeper
     tags[peer as usize] = keeper.requests + 1;
     let mut sent_at = keeper.sent_at;
     sent_at[peer as usize] = keeper.ticks;
-    let mut next = keeper;
-    next.requests = keeper.requests + 1;
-    next.waiting = keeper.waiting + bit(peer);
-    next.tags = tags;
-    next.sent_at = sent_at;
-    next
+    Keeper {
+        requests: keeper.requests + 1,
+        waiting: keeper.waiting + bit(peer),
+        tags,
+        sent_at,
+        ..keeper
+    }
 }
 
 // The keeper with the peer's request ended.
@@ -92,13 +90,14 @@ pub(crate) fn ended_with(keeper: Keeper, peer: u8, edges: Interval, conflicts: u
     tags[peer as usize] = 0;
     let mut sent_at = keeper.sent_at;
     sent_at[peer as usize] = 0;
-    let mut next = keeper;
-    next.edges = edges;
-    next.conflicts = conflicts;
-    next.waiting = keeper.waiting - bit(peer);
-    next.tags = tags;
-    next.sent_at = sent_at;
-    next
+    Keeper {
+        edges,
+        conflicts,
+        waiting: keeper.waiting - bit(peer),
+        tags,
+        sent_at,
+        ..keeper
+    }
 }
 
 // A reply that was found, by its verdict.
@@ -117,11 +116,13 @@ pub(crate) fn replied_with(keeper: Keeper, peer: u8, verdict: Verdict) -> Outcom
 }
 
 // The keeper with the edges and the tick count of a pass.
+#[tactic(auto, unfolding(crate::specs::Apply::passed_to, crate::specs::Apply::changed))]
 pub(crate) fn passed_to(keeper: Keeper, edges: Interval, ticks: u64) -> Keeper
     ensures { result ≡ passed_to keeper edges ticks }
 {
-    let mut next = keeper;
-    next.edges = edges;
-    next.ticks = ticks;
-    next
+    Keeper {
+        edges,
+        ticks,
+        ..keeper
+    }
 }

@@ -7,8 +7,9 @@ ghost use Rattle.keeper.specs.Windows.{window_answer};
 
 use crate::Answer;
 use calendar::Date;
-use command::windows::{WindowSpan, window_span};
+use command::windows::window_span;
 use moment::Interval;
+use refusal::Refusal;
 use rules::windows::window_state;
 
 // A window has its own refusals before 3. The edges of a keeper that counts as started are within their limits.
@@ -23,14 +24,9 @@ pub(crate) fn window_answer(
     requires { started ≡ true → edges_within edges ≡ true }
     ensures { result ≡ window_answer started (told claim edges) slot start end }
 {
-    let span = window_span(slot as u64, start, end);
-    match span {
-        WindowSpan::Of(window) => {
-            if !started {
-                return Answer::Refused(3);
-            }
-            Answer::Heater(slot, window_state(window, claim, edges))
-        }
-        WindowSpan::Refused(number) => Answer::Refused(number),
+    match window_span(slot as u64, start, end) {
+        Err(refusal) => Answer::Refused(refusal.number()),
+        Ok(_) if !started => Answer::Refused(Refusal::OutOfTurn.number()),
+        Ok(window) => Answer::Heater(slot, window_state(window, claim, edges)),
     }
 }

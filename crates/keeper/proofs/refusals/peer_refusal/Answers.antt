@@ -7,13 +7,13 @@ use Rattle.keeper.proofs.refusals.peer_refusal.Goals as goal
 
 pub returns-then-not-started : goal.returns-then-not-started
 unfolding first state_of
-returns-then-not-started c = rw (sym c.requires ∙ c.if-not-started.true)
+returns-then-not-started c = rw (sym c.args.tested.counted ∙ c.if-not-started.true)
 
 pub returns-then-peer-keeper : goal.returns-then-peer-keeper
 unfolding first state_of
 returns-then-peer-keeper c =
     rw (
-      sym c.requires ∙ c.if-not-started.false,
+      sym c.args.tested.counted ∙ c.if-not-started.false,
       eq-eqb _ _ c.if-peer-keeper.true,
     )
 
@@ -21,6 +21,6 @@ pub returns : goal.returns
 unfolding first state_of
 returns c =
     rw (
-      sym c.requires ∙ c.if-not-started.false,
+      sym c.args.tested.counted ∙ c.if-not-started.false,
       ne_eqb _ _ c.if-peer-keeper.false,
     )

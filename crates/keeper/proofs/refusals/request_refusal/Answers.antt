@@ -5,13 +5,14 @@ use mathlib.Core.Bool.{true}
 use mathlib.Core.List.{[], ◌∷◌}
 use Prim.Native.Nat.{ℕ}
 use lib.Dec.{leb}
+use Rattle.std.proofs.lemmas.Result.{err_from_is_err_and}
 use Rattle.command.specs.Causes.{cause, first}
 use Rattle.command.specs.declared.Command.TheVariants as C
 use Rattle.command.specs.Limits.{board_within}
 use Rattle.keeper.specs.State.{most_requests, state_of}
 use Rattle.keeper.specs.Refusals.{refusal, causes, peer_causes, keeper_causes}
 use Rattle.keeper.specs.declared.Keeper.{Keeper}
-use Rattle.keeper.proofs.CallLaws.{own_holds, own_past, peer_holds, peer_past}
+use Rattle.keeper.proofs.CallLaws.{own_holds, own_past, peer_err, peer_past}
 use Rattle.keeper.proofs.refusals.request_refusal.Goals as goal
 
 -- Past the command's own cause.
@@ -31,34 +32,34 @@ returns-then-not-board_within c =
     let x = c.args in
     sym (own_holds _ (C.Request x.peer) (sym c.board_within.ensures ∙ c.if-not-board_within.true))
 
-pub returns-then-number-ne0 : goal.returns-then-number-ne0
+pub returns-in_err-peer_refusal : goal.returns-in_err-peer_refusal
 unfolding keeper_causes
-returns-then-number-ne0 c =
+returns-in_err-peer_refusal c =
     let x = c.args in
     let kept = sym c.board_within.ensures ∙ c.if-not-board_within.false in
-    let p = c.peer_refusal-number.ensures in
-    sym (past_own x.keeper x.peer kept ∙ peer_holds (state_of x.keeper) x.peer _ (λ e. c.if-number-ne0.true (p ∙ e)) ∙ sym p)
+    let left = err_from_is_err_and c.from_residual.result c.from_residual.ensures.1 in
+    rw (left.1, left.2) (peer_err (state_of x.tested.keeper) x.peer _ _ c.in_err-peer_refusal.ensures ∙ sym (past_own x.tested.keeper x.peer kept))
 
 pub returns-then-bit_of : goal.returns-then-bit_of
 unfolding first state_of
 returns-then-bit_of c =
     let x = c.args in
     let kept = sym c.board_within.ensures ∙ c.if-not-board_within.false in
-    let none = sym c.peer_refusal-number.ensures ∙ c.if-number-ne0.false in
-    sym (past_peer x.keeper x.peer kept none ∙ rw (sym c.bit_of.ensures ∙ c.if-bit_of.true))
+    let none = sym c.in_ok-peer_refusal.ensures in
+    sym (past_peer x.tested.keeper x.peer kept none ∙ rw (sym c.bit_of.ensures ∙ c.if-bit_of.true))
 
 pub returns-then-keeper-ge-MOST_REQUESTS : goal.returns-then-keeper-ge-MOST_REQUESTS
 unfolding first state_of
 returns-then-keeper-ge-MOST_REQUESTS c =
     let x = c.args in
     let kept = sym c.board_within.ensures ∙ c.if-not-board_within.false in
-    let none = sym c.peer_refusal-number.ensures ∙ c.if-number-ne0.false in
-    sym (past_peer x.keeper x.peer kept none ∙ rw (sym c.bit_of.ensures ∙ c.if-bit_of.false, le-leb _ _ c.if-keeper-ge-MOST_REQUESTS.true))
+    let none = sym c.in_ok-peer_refusal.ensures in
+    sym (past_peer x.tested.keeper x.peer kept none ∙ rw (sym c.bit_of.ensures ∙ c.if-bit_of.false, le-leb _ _ c.if-keeper-ge-MOST_REQUESTS.true))
 
 pub returns : goal.returns
 unfolding first state_of
 returns c =
     let x = c.args in
     let kept = sym c.board_within.ensures ∙ c.if-not-board_within.false in
-    let none = sym c.peer_refusal-number.ensures ∙ c.if-number-ne0.false in
-    sym (past_peer x.keeper x.peer kept none ∙ rw (sym c.bit_of.ensures ∙ c.if-bit_of.false, lt-leb _ _ c.if-keeper-ge-MOST_REQUESTS.false))
+    let none = sym c.in_ok-peer_refusal.ensures in
+    sym (past_peer x.tested.keeper x.peer kept none ∙ rw (sym c.bit_of.ensures ∙ c.if-bit_of.false, lt-leb _ _ c.if-keeper-ge-MOST_REQUESTS.false))

@@ -12,6 +12,7 @@ use Rattle.moment.specs.Intervals.{edges_within}
 use Rattle.moment.specs.declared.Interval.{Interval}
 use Rattle.rules.specs.Rules.{longest_wait}
 use Rattle.command.specs.Limits.{board_within, tag_within}
+use Rattle.std.proofs.lemmas.Result.{err_from_is_err_and}
 use Rattle.command.specs.Causes.{cause, first, own_causes}
 use Rattle.command.specs.declared.Command.TheVariants as C
 use Rattle.command.proofs.LimitLaws.{board_bound}
@@ -19,7 +20,7 @@ use Rattle.command.proofs.CauseLaws.{numbered, first_none}
 use Rattle.keeper.specs.State.{state_of, counts_as_started}
 use Rattle.keeper.specs.Refusals.{waited, peer_causes, wait_causes}
 use Rattle.keeper.specs.declared.Keeper.{Keeper}
-use Rattle.keeper.proofs.CallLaws.{own_holds, own_past, peer_holds, peer_past}
+use Rattle.keeper.proofs.CallLaws.{own_holds, own_past, peer_err, peer_past}
 use Rattle.keeper.proofs.StartedLaws.{started_read, sent_by}
 use Rattle.keeper.proofs.refusals.wait_refusal.Goals as goal
 
@@ -47,57 +48,57 @@ returns-then-not-reply_within c =
     let x = c.args in
     sym (own_holds _ (C.Reply x.peer x.tag x.edges) (sym c.reply_within.ensures ∙ c.if-not-reply_within.true))
 
-pub returns-then-number-ne0 : goal.returns-then-number-ne0
-returns-then-number-ne0 c =
+pub returns-in_err-peer_refusal : goal.returns-in_err-peer_refusal
+returns-in_err-peer_refusal c =
     let x = c.args in
     let kept = sym c.reply_within.ensures ∙ c.if-not-reply_within.false in
-    let p = c.peer_refusal-number.ensures in
-    sym (past_own x.keeper x.peer x.tag x.edges kept ∙ peer_holds (state_of x.keeper) x.peer _ (λ e. c.if-number-ne0.true (p ∙ e)) ∙ sym p)
+    let left = err_from_is_err_and c.from_residual.result c.from_residual.ensures.1 in
+    rw (left.1, left.2) (peer_err (state_of x.tested.keeper) x.peer _ _ c.in_err-peer_refusal.ensures ∙ sym (past_own x.tested.keeper x.peer x.tag x.edges kept))
 
 pub returns-then-not-bit_of : goal.returns-then-not-bit_of
 unfolding first state_of
 returns-then-not-bit_of c =
     let x = c.args in
     let kept = sym c.reply_within.ensures ∙ c.if-not-reply_within.false in
-    let none = sym c.peer_refusal-number.ensures ∙ c.if-number-ne0.false in
-    sym (past_peer x.keeper x.peer x.tag x.edges kept none ∙ rw (sym c.bit_of.ensures ∙ c.if-not-bit_of.true))
+    let none = sym c.in_ok-peer_refusal.ensures in
+    sym (past_peer x.tested.keeper x.peer x.tag x.edges kept none ∙ rw (sym c.bit_of.ensures ∙ c.if-not-bit_of.true))
 
 pub bounds-tags-peer : goal.bounds-tags-peer
 bounds-tags-peer c =
     let x = c.args in
-    omega (arith, small x.keeper x.peer x.tag x.edges (sym c.reply_within.ensures ∙ c.if-not-reply_within.false))
+    omega (arith, small x.tested.keeper x.peer x.tag x.edges (sym c.reply_within.ensures ∙ c.if-not-reply_within.false))
 
 pub returns-then-tag-tags : goal.returns-then-tag-tags
 unfolding first state_of
 returns-then-tag-tags c =
     let x = c.args in
     let kept = sym c.reply_within.ensures ∙ c.if-not-reply_within.false in
-    let none = sym c.peer_refusal-number.ensures ∙ c.if-number-ne0.false in
+    let none = sym c.in_ok-peer_refusal.ensures in
     sym
-    (past_peer x.keeper x.peer x.tag x.edges kept none
+    (past_peer x.tested.keeper x.peer x.tag x.edges kept none
     ∙ rw (sym c.bit_of.ensures ∙ c.if-not-bit_of.false, ne_eqb _ _ c.if-tag-tags.true))
 
 pub bounds-sent_at-peer : goal.bounds-sent_at-peer
 bounds-sent_at-peer c =
     let x = c.args in
-    omega (arith, small x.keeper x.peer x.tag x.edges (sym c.reply_within.ensures ∙ c.if-not-reply_within.false))
+    omega (arith, small x.tested.keeper x.peer x.tag x.edges (sym c.reply_within.ensures ∙ c.if-not-reply_within.false))
 
 pub overflow_sub-keeper : goal.overflow_sub-keeper
 unfolding state_of
 overflow_sub-keeper c =
     let x = c.args in
     let kept = sym c.reply_within.ensures ∙ c.if-not-reply_within.false in
-    let counts = started x.keeper x.peer (sym c.peer_refusal-number.ensures ∙ c.if-number-ne0.false) in
-    sent_by x.keeper x.peer (started_read x.keeper counts) (small x.keeper x.peer x.tag x.edges kept) (sym c.bit_of.ensures ∙ c.if-not-bit_of.false)
+    let counts = started x.tested.keeper x.peer (sym c.in_ok-peer_refusal.ensures) in
+    sent_by x.tested.keeper x.peer (started_read x.tested.keeper counts) (small x.tested.keeper x.peer x.tag x.edges kept) (sym c.bit_of.ensures ∙ c.if-not-bit_of.false)
 
 pub returns-then-keeper-sent_at-gt-LONGEST_WAIT : goal.returns-then-keeper-sent_at-gt-LONGEST_WAIT
 unfolding first state_of
 returns-then-keeper-sent_at-gt-LONGEST_WAIT c =
     let x = c.args in
     let kept = sym c.reply_within.ensures ∙ c.if-not-reply_within.false in
-    let none = sym c.peer_refusal-number.ensures ∙ c.if-number-ne0.false in
+    let none = sym c.in_ok-peer_refusal.ensures in
     sym
-    (past_peer x.keeper x.peer x.tag x.edges kept none
+    (past_peer x.tested.keeper x.peer x.tag x.edges kept none
     ∙ rw (
       sym c.bit_of.ensures ∙ c.if-not-bit_of.false,
       eq-eqb _ _ c.if-tag-tags.false,
@@ -109,9 +110,9 @@ unfolding first state_of
 returns c =
     let x = c.args in
     let kept = sym c.reply_within.ensures ∙ c.if-not-reply_within.false in
-    let none = sym c.peer_refusal-number.ensures ∙ c.if-number-ne0.false in
+    let none = sym c.in_ok-peer_refusal.ensures in
     sym
-    (past_peer x.keeper x.peer x.tag x.edges kept none
+    (past_peer x.tested.keeper x.peer x.tag x.edges kept none
     ∙ rw (
       sym c.bit_of.ensures ∙ c.if-not-bit_of.false,
       eq-eqb _ _ c.if-tag-tags.false,

@@ -1,10 +1,7 @@
--- The fields are the definition's.
-use mathlib.Core.Path.{refl}
-use Rattle.keeper.specs.State.{fresh}
+-- The other fields are a fresh keeper's, as in the definition.
 use Rattle.keeper.specs.Apply.{begun}
 use Rattle.keeper.proofs.steps.begun_with.Goals as goal
 
 pub returns : goal.returns
-unfolding begun fresh
-returns c =
-    refl
+unfolding begun
+returns c = rw c.fresh.ensures

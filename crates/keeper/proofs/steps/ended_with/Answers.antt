@@ -4,8 +4,8 @@ use Rattle.keeper.specs.Apply.{changed, ended}
 use Rattle.bits.proofs.BitLaws.{bit_le}
 use Rattle.keeper.proofs.steps.ended_with.Goals as goal
 
-pub overflow_sub-next : goal.overflow_sub-next
-overflow_sub-next c =
+pub overflow_sub-result : goal.overflow_sub-result
+overflow_sub-result c =
     let x = c.args in
     omega (arith, c.bit.ensures, bit_le x.keeper.waiting x.peer c.requires.peer_value)
 

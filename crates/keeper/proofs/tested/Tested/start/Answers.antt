@@ -6,7 +6,7 @@ use Rattle.keeper.specs.Refusals.{refusal, causes, keeper_causes}
 use Rattle.keeper.specs.State.{state_of}
 use Rattle.keeper.specs.Apply.{accepted}
 use Rattle.keeper.proofs.CallLaws.{apply_refused, apply_accepted}
-use Rattle.keeper.proofs.Keeper.start.Goals as goal
+use Rattle.keeper.proofs.tested.Tested.start.Goals as goal
 
 pub returns-then-not-start_within : goal.returns-then-not-start_within
 unfolding refusal first causes own_causes keeper_causes state_of
@@ -14,7 +14,7 @@ returns-then-not-start_within c =
     let x = c.args in
     c.refused.ensures
     ∙ sym
-    (apply_refused x.self (C.Start x.board x.rule x.claim x.edges) 2 refl
+    (apply_refused x.self.keeper (C.Start x.board x.rule x.claim x.edges) 2 refl
     (rw (sym c.start_within.ensures ∙ c.if-not-start_within.true)))
 
 pub returns-then-started : goal.returns-then-started
@@ -23,10 +23,10 @@ returns-then-started c =
     let x = c.args in
     c.refused-then-started.ensures
     ∙ sym
-    (apply_refused x.self (C.Start x.board x.rule x.claim x.edges) 3 refl
+    (apply_refused x.self.keeper (C.Start x.board x.rule x.claim x.edges) 3 refl
     (rw (
       sym c.start_within.ensures ∙ c.if-not-start_within.false,
-      sym c.requires ∙ c.if-started.true,
+      sym c.args.self.counted ∙ c.if-started.true,
     )))
 
 pub returns : goal.returns
@@ -35,8 +35,8 @@ returns c =
     let x = c.args in
     rw c.begun_with.ensures
     (sym
-    (apply_accepted x.self (C.Start x.board x.rule x.claim x.edges)
+    (apply_accepted x.self.keeper (C.Start x.board x.rule x.claim x.edges)
     (rw (
       sym c.start_within.ensures ∙ c.if-not-start_within.false,
-      sym c.requires ∙ c.if-started.false,
+      sym c.args.self.counted ∙ c.if-started.false,
     ))))
