@@ -4,7 +4,7 @@
 
 ghost use Rattle.answers.specs.Writing.{LinePut};
 
-use answers::{dropped_line, flight_line, heater_line, put_refusal, sent_line, started_line};
+use answers::{heater_line, numbered_line, put_refusal, sent_line};
 use edge_lines::{at_line, replied_line};
 use keeper::{Answer, Keeper};
 use time_lines::time_line;
@@ -15,11 +15,11 @@ pub fn put_answer(out: &mut [u8], at: usize, answer: Answer, keeper: Keeper) -> 
     ensures { LinePut answer keeper out.old at out.new result }
 {
     match answer {
-        Answer::Started(board) => started_line(out, at, board),
+        Answer::Started(board) => numbered_line(out, at, b"(started ", board),
         Answer::At(ticks, edges) => at_line(out, at, ticks, edges),
         Answer::Sent(peer, tag) => sent_line(out, at, peer, tag),
         Answer::Replied(peer, verdict) => replied_line(out, at, peer, verdict),
-        Answer::Dropped(peer) => dropped_line(out, at, peer),
+        Answer::Dropped(peer) => numbered_line(out, at, b"(dropped ", peer),
         Answer::Time {
             edges,
             centre,
@@ -33,7 +33,7 @@ pub fn put_answer(out: &mut [u8], at: usize, answer: Answer, keeper: Keeper) -> 
             waiting_line(out, at, keeper.waiting, &tags)
         }
         Answer::Heater(slot, window) => heater_line(out, at, slot, window),
-        Answer::Flight(peer) => flight_line(out, at, peer),
+        Answer::Flight(peer) => numbered_line(out, at, b"(flight ", peer),
         Answer::Refused(n) => put_refusal(out, at, n),
     }
 }

@@ -18,6 +18,10 @@ use Rattle.keeper.specs.declared.Answer.TheVariants as A
 unfoldable pub edges_line : List ℕ → ℕ → Interval → List ℕ
 edges_line word n edges = word ++ digits n ++ bytes " " ++ pair edges.lower edges.upper ++ bytes ")"
 
+-- '(WORD N)', where `word` is the bracket, the word and a space
+abbrev pub numbered : List ℕ → ℕ → List ℕ
+numbered word n = word ++ digits n ++ bytes ")"
+
 -- the word of each finding
 abbrev pub finding_word : Finding → List ℕ
 finding_word Conflict = bytes "(conflict "

@@ -1,15 +1,11 @@
--- What is put of the time line behind its word is its pairs and counts with the LF.
+-- What is put of the time line one after the other is the line with its LF.
 use mathlib.Core.Path.{◌≡◌}
 use mathlib.Core.List.{List, ◌++◌, append_assoc}
 use Prim.Native.Nat.{ℕ}
-use lib.IntN.{ℤ}
 use Rattle.text.specs.Words.{bytes}
-use Rattle.numeral.specs.Digits.{digits, signed_digits}
-use Rattle.writing.specs.Puts.{pair}
+use Rattle.numeral.specs.Digits.{digits}
 use Rattle.answers.specs.Writing.{line_end}
 
-pub time_parts : (w : List ℕ) (a b c d : ℤ) (m n : ℕ)
-    → w ++ bytes "(" ++ signed_digits a ++ bytes " " ++ signed_digits b ++ bytes ") (" ++ signed_digits c ++ bytes " " ++ signed_digits d ++ (bytes ") " ++ digits m ++ bytes " " ++ digits n ++ bytes ")\n")
-    ≡ w ++ pair a b ++ bytes " " ++ pair c d ++ bytes " " ++ digits m ++ bytes " " ++ digits n ++ bytes ")" ++ line_end
-unfolding pair
-time_parts w a b c d m n = simp append_assoc
+pub time_parts : (w p q : List ℕ) (m n : ℕ) → w ++ p ++ bytes " " ++ q ++ (bytes " " ++ digits m ++ bytes " " ++ digits n ++ bytes ")\n")
+    ≡ w ++ p ++ bytes " " ++ q ++ bytes " " ++ digits m ++ bytes " " ++ digits n ++ bytes ")" ++ line_end
+time_parts w p q m n = simp append_assoc

@@ -10,15 +10,16 @@ ghost use Rattle.keeper.specs.declared.Keeper.{Keeper};
 ghost use Rattle.answers.specs.Answers.{line_of};
 ghost use Rattle.answers.specs.Writing.{PutShort};
 
-use digits::write::{put_number, put_signed};
+use digits::write::put_number;
 use moment::Interval;
 use text::output::put_bytes;
+use writing::put_pair;
 
-// ') CONFLICTS WAITING)' and LF: the end of the time line, from the bracket of its last pair on
+// ' CONFLICTS WAITING)' and LF: the end of the time line, behind its last pair
 fn put_counts(out: &mut [u8], at: usize, conflicts: u32, waiting: u32) -> usize
-    ensures { Puts out.old at (bytes ") " ++ digits conflicts ++ bytes " " ++ digits waiting ++ bytes ")\n") out.new result }
+    ensures { Puts out.old at (bytes " " ++ digits conflicts ++ bytes " " ++ digits waiting ++ bytes ")\n") out.new result }
 {
-    let at = put_bytes(out, at, b") ");
+    let at = put_bytes(out, at, b" ");
     let at = put_number(out, at, conflicts as u64);
     let at = put_bytes(out, at, b" ");
     let at = put_number(out, at, waiting as u64);
@@ -37,13 +38,9 @@ pub fn time_line(
 ) -> usize
     ensures { (k : Keeper) → PutShort out.old at (line_of (Time edges centre error conflicts waiting) k) out.new result }
 {
-    let at = put_bytes(out, at, b"(time (");
-    let at = put_signed(out, at, edges.lower);
+    let at = put_bytes(out, at, b"(time ");
+    let at = put_pair(out, at, edges.lower, edges.upper);
     let at = put_bytes(out, at, b" ");
-    let at = put_signed(out, at, edges.upper);
-    let at = put_bytes(out, at, b") (");
-    let at = put_signed(out, at, centre);
-    let at = put_bytes(out, at, b" ");
-    let at = put_signed(out, at, error);
+    let at = put_pair(out, at, centre, error);
     put_counts(out, at, conflicts, waiting)
 }

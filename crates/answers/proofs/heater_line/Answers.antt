@@ -1,11 +1,11 @@
--- A word, a number and the end.
+-- The line of a word and a number, with the word of what is told.
 use native.Mathlib.Omega.{arith}
-use Rattle.writing.proofs.PutsLaws.{one_put}
-use Rattle.answers.specs.Answers.{line_of}
-use Rattle.answers.proofs.LineLaws.{number_put, window_most}
+use Rattle.answers.specs.Answers.{window_word, line_of}
+use Rattle.answers.proofs.LineLaws.{numbered_short, window_most}
 use Rattle.answers.proofs.heater_line.Goals as goal
 
 pub returns : goal.returns
 unfolding line_of
 returns c k =
-    number_put c.args.slot (omega (arith, c.ranges)) (window_most c.args.window) c.put_window-at.ensures (one_put c.put_number-at.ensures) (one_put c.put_bytes.ensures)
+    let x = c.args in
+    numbered_short (window_word x.window) x.slot (window_most x.window) (omega (arith, c.ranges)) (rw c.window_word.ensures at c.numbered_line.ensures)

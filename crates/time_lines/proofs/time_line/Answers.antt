@@ -2,31 +2,17 @@
 use Prim.Native.Nat.{◌^◌, ◌<◌}
 use lib.Signed.{mag}
 use borrow.Author.Rules.{rules}
-use mathlib.Core.Path.{ap, ◌∙◌}
 use native.Mathlib.Omega.{arith}
 use mir.Facts.{to_z-of_z}
 use lib.ListN.{length-append}
 use Rattle.text.specs.Words.{bytes}
-use Rattle.text.proofs.OutputLaws.{put_same}
-use Rattle.numeral.specs.Digits.{signed_digits}
 use Rattle.numeral.proofs.Digits.{digits_most}
 use Rattle.moment.proofs.Integers.{got}
+use Rattle.writing.specs.Puts.{pair}
 use Rattle.writing.proofs.PutsLaws.{one_put, ◌then◌, pair_most, puts_same}
 use Rattle.answers.specs.Answers.{line_of}
 use Rattle.time_lines.proofs.TimeLaws.{time_parts}
 use Rattle.time_lines.proofs.time_line.Goals as goal
-
-pub shape_of-out : goal.shape_of-out
-shape_of-out c =
-    c.put_counts.auto.out
-    ∙ c.put_signed-at-4.auto.out
-    ∙ c.put_bytes-at-4.auto.out
-    ∙ c.put_signed-at-3.auto.out
-    ∙ c.put_bytes-at-3.auto.out
-    ∙ c.put_signed-at-2.auto.out
-    ∙ c.put_bytes-at-2.auto.out
-    ∙ c.put_signed-at.auto.out
-    ∙ c.put_bytes-at.auto.out
 
 pub returns : goal.returns
 unfolding line_of
@@ -37,15 +23,11 @@ returns c k =
     record {
       puts = puts_same
           (one_put c.put_bytes-at.ensures
-          then one_put (put_same c.put_signed-at.ensures (ap signed_digits (got x.edges.lower lower)))
+          then (rw (got x.edges.lower lower, got x.edges.upper upper) at c.put_pair-at.ensures.0)
           then one_put c.put_bytes-at-2.ensures
-          then one_put (put_same c.put_signed-at-2.ensures (ap signed_digits (got x.edges.upper upper)))
-          then one_put c.put_bytes-at-3.ensures
-          then one_put (put_same c.put_signed-at-3.ensures (ap signed_digits (to_z-of_z c.ranges.centre)))
-          then one_put c.put_bytes-at-4.ensures
-          then one_put (put_same c.put_signed-at-4.ensures (ap signed_digits (to_z-of_z c.ranges.error)))
+          then (rw (to_z-of_z c.ranges.centre, to_z-of_z c.ranges.error) at c.put_pair-at-2.ensures.0)
           then c.put_counts.ensures)
-          (time_parts (bytes "(time ") x.edges.lower x.edges.upper x.centre x.error x.conflicts x.waiting);
+          (time_parts (bytes "(time ") (pair x.edges.lower x.edges.upper) (pair x.centre x.error) x.conflicts x.waiting);
       short =
           simp length-append
           (omega (
