@@ -7,8 +7,8 @@ use lib.Dec.{ltb, eqb}
 use lib.IntN.{ℤ}
 use Rattle.bits.proofs.Tests.{by_test}
 use Rattle.command.specs.declared.Command.{Command}
-use Rattle.command.specs.declared.Reading.{Reading}
-use Rattle.command.specs.declared.Reading.TheVariants.{Accepted, NoShape, OutsideLimits}
+use Rattle.std.specs.Prelude.{Ok, Err}
+use Rattle.command.specs.Limits.{Reading}
 use Rattle.reader.specs.Reading.{reading_of}
 use Rattle.keeper.specs.State.{state_of}
 use Rattle.keeper.specs.Refusals.{refusal}
@@ -25,7 +25,7 @@ use Rattle.history.proofs.Commands.{unchanged, command_invariant}
 -- The keeper and the log accept the same lines, since both go by the same values.
 module _ (k : Keeper) (taken kept dropped : ℕ) (stands : ℤ → Type 0) (held : KeeperInvariant k taken kept dropped stands) where
   tried : (c : Command)
-      → Invariant (log_by (log_of k taken kept dropped) (accepted_command (state_of k) (Accepted c))) (apply k c).keeper (advanced (event_by (state_of k) (accepted_command (state_of k) (Accepted c))) stands)
+      → Invariant (log_by (log_of k taken kept dropped) (accepted_command (state_of k) (Ok c))) (apply k c).keeper (advanced (event_by (state_of k) (accepted_command (state_of k) (Ok c))) stands)
   unfolding apply
   tried c =
       by_test (eqb (refusal (state_of k) c) 0)
@@ -34,9 +34,8 @@ module _ (k : Keeper) (taken kept dropped : ℕ) (stands : ℤ → Type 0) (held
 
   read : (r : Reading)
       → Invariant (log_by (log_of k taken kept dropped) (accepted_command (state_of k) r)) (by_reading r k).keeper (advanced (event_by (state_of k) (accepted_command (state_of k) r)) stands)
-  read (Accepted c) = tried c
-  read NoShape = unchanged k taken kept dropped stands held
-  read OutsideLimits = unchanged k taken kept dropped stands held
+  read (Ok c) = tried c
+  read (Err r) = unchanged k taken kept dropped stands held
 
   given : (i : Input)
       → Invariant (logged (log_of k taken kept dropped) i) (keeper_after k i.line i.room) (advanced (event_of (state_of k) i) stands)

@@ -14,8 +14,8 @@ use Rattle.rules.specs.declared.Finding.TheVariants.{Conflict, Taken, Kept}
 use Rattle.command.specs.Causes.{own_causes}
 use Rattle.command.specs.declared.Command.{Command}
 use Rattle.command.specs.declared.Command.TheVariants as C
-use Rattle.command.specs.declared.Reading.{Reading}
-use Rattle.command.specs.declared.Reading.TheVariants.{Accepted, NoShape, OutsideLimits}
+use Rattle.std.specs.Prelude.{Ok, Err}
+use Rattle.command.specs.Limits.{Reading}
 use Rattle.reader.specs.Reading.{reading_of}
 use Rattle.keeper.specs.State.{State}
 use Rattle.keeper.specs.Refusals.{keeper_causes, causes, refusal, reply_bracket, reply_verdict}
@@ -31,9 +31,8 @@ Sound s (accepts c) = refusal s c ≡ 0
 Sound s refuses = Unit {0}
 
 sound_reading : (s : State) (r : Reading) → Sound s (accepted_command s r)
-sound_reading s (Accepted c) = by_test (eqb (refusal s c) 0) (λ t. rw t (eqb-true _ _ t)) (λ t. rw t tt)
-sound_reading s NoShape = tt
-sound_reading s OutsideLimits = tt
+sound_reading s (Ok c) = by_test (eqb (refusal s c) 0) (λ t. rw t (eqb-true _ _ t)) (λ t. rw t tt)
+sound_reading s (Err r) = tt
 
 sound : (s : State) (i : Input) → Sound s (accepting s i)
 unfolding accepting

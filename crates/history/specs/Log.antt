@@ -1,5 +1,5 @@
 -- The log: document 01, 'The log', and document 02, order 7. It 'is worked from that list alone and reads nothing from the keeper'.
-use Rattle.std.specs.Prelude.{Bool, true, false, List, [], ◌∷◌, ℕ, ◌+◌, ltb, eqb, pos}
+use Rattle.std.specs.Prelude.{Bool, true, false, List, [], ◌∷◌, ℕ, ◌+◌, ltb, eqb, pos, Ok, Err}
 use Rattle.bits.specs.Choice.{choose}
 use Rattle.bits.specs.Below.{updated}
 use Rattle.moment.specs.declared.Interval.{Interval}
@@ -12,8 +12,7 @@ use Rattle.rules.specs.declared.Finding.TheVariants.{Conflict, Taken, Kept}
 use Rattle.rules.specs.declared.Verdict.{Verdict}
 use Rattle.command.specs.declared.Command.{Command}
 use Rattle.command.specs.declared.Command.TheVariants as C
-use Rattle.command.specs.declared.Reading.{Reading}
-use Rattle.command.specs.declared.Reading.TheVariants.{Accepted, NoShape, OutsideLimits}
+use Rattle.command.specs.Limits.{Reading}
 use Rattle.reader.specs.Reading.{reading_of}
 use Rattle.keeper.specs.State.{State}
 use Rattle.keeper.specs.Refusals.{refusal, reply_verdict}
@@ -180,9 +179,8 @@ pub data Accepting : Type 0 where
   refuses : Accepting
 
 abbrev pub accepted_command : State → Reading → Accepting
-accepted_command s (Accepted c) = choose (eqb (refusal s c) 0) (λ _. accepts c) (λ _. refuses)
-accepted_command s NoShape = refuses
-accepted_command s OutsideLimits = refuses
+accepted_command s (Ok c) = choose (eqb (refusal s c) 0) (λ _. accepts c) (λ _. refuses)
+accepted_command s (Err r) = refuses
 
 unfoldable pub accepting : State → Input → Accepting
 accepting s i = choose (ltb i.room least_output) (λ _. refuses) (λ _. accepted_command s (reading_of i.line))

@@ -4,9 +4,10 @@ use mathlib.Core.Path.{◌≡◌, refl}
 use mathlib.Core.Bool.{true}
 use mathlib.Core.List.{List}
 use Prim.Native.Nat.{ℕ}
-use native.Mathlib.Omega.{arith}
-use Rattle.command.specs.declared.Reading.{Reading}
-use Rattle.command.specs.declared.Reading.TheVariants.{Accepted, NoShape, OutsideLimits}
+use Rattle.std.specs.Prelude.{Ok, Err}
+use Rattle.command.specs.Limits.{Reading}
+use Rattle.refusal.proofs.Numbers.{not_zero}
+use borrow.Author.Tests.{eqb-false}
 use Rattle.reader.specs.Reading.{reading_of}
 use Rattle.keeper.specs.State.{counts_as_started}
 use Rattle.keeper.specs.Apply.{number_of}
@@ -18,9 +19,8 @@ use Rattle.line.specs.Call.{by_reading, answered}
 
 module _ (k : Keeper) (line : List ℕ) where
   read_keeps : (r : Reading) → (number_of (by_reading r k).answer ≡ 0 → ⊥) → (by_reading r k).keeper ≡ k
-  read_keeps (Accepted c) h = refused_keeps k c h
-  read_keeps NoShape h = refl
-  read_keeps OutsideLimits h = refl
+  read_keeps (Ok c) h = refused_keeps k c h
+  read_keeps (Err r) h = refl
 
   -- a refused line leaves the keeper as it was
   pub refused_same : (number_of (answered k line).answer ≡ 0 → ⊥) → (answered k line).keeper ≡ k
@@ -29,9 +29,8 @@ module _ (k : Keeper) (line : List ℕ) where
 
   module _ (sized : Sized k) where
     read_starts : (r : Reading) → number_of (by_reading r k).answer ≡ 0 → counts_as_started (by_reading r k).keeper ≡ true
-    read_starts (Accepted c) e = accepted_starts k sized c e
-    read_starts NoShape e = absurd (omega arith)
-    read_starts OutsideLimits e = absurd (omega arith)
+    read_starts (Ok c) e = accepted_starts k sized c e
+    read_starts (Err r) e = absurd (eqb-false _ _ (not_zero r) e)
 
     -- an accepted line leaves one that counts as started
     pub answered_starts : number_of (answered k line).answer ≡ 0 → counts_as_started (answered k line).keeper ≡ true
@@ -39,9 +38,8 @@ module _ (k : Keeper) (line : List ℕ) where
     answered_starts e = read_starts (reading_of line) e
 
     read_sized : (r : Reading) → Sized (by_reading r k).keeper
-    read_sized (Accepted c) = apply_sized k sized c
-    read_sized NoShape = sized
-    read_sized OutsideLimits = sized
+    read_sized (Ok c) = apply_sized k sized c
+    read_sized (Err r) = sized
 
     pub answered_sized : Sized (answered k line).keeper
     unfolding answered

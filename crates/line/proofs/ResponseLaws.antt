@@ -8,8 +8,11 @@ use native.Mathlib.Omega.{arith}
 use borrow.Author.Tests.{ltb-false, lt-ltb, le-ltb}
 use lib.Dec.{ltb}
 use lib.ListN.{length, drop, length-append}
-use Rattle.command.specs.declared.Reading.{Reading}
-use Rattle.command.specs.declared.Reading.TheVariants.{Accepted, NoShape, OutsideLimits}
+use Rattle.std.specs.Prelude.{Ok, Err}
+use Rattle.command.specs.Limits.{Reading}
+use Rattle.refusal.specs.declared.Refusal.{Refusal}
+use Rattle.refusal.specs.declared.Refusal.TheVariants as R
+use Rattle.refusal.specs.Refusal.{number}
 use Rattle.reader.specs.Reading.{reading_of}
 use Rattle.bits.proofs.Tests.{by_test}
 use Rattle.keeper.specs.State.{counts_as_started, state_of}
@@ -32,9 +35,8 @@ unfolding answered
 listed k line h = go (reading_of line) h
   where
     go : (r : Reading) → (by_reading r k).answer ≡ A.Waiting → counts_as_started (by_reading r k).keeper ≡ true
-    go (Accepted c) e = listed_started k c e
-    go NoShape e = absurd (let z : ◌≡◌ {A = ℕ} 0 1 = cc in omega arith)
-    go OutsideLimits e = absurd (let z : ◌≡◌ {A = ℕ} 0 1 = cc in omega arith)
+    go (Ok c) e = listed_started k c e
+    go (Err r) e = absurd (let z : ◌≡◌ {A = ℕ} 0 1 = cc in omega arith)
 
 pub wrote_within : {a : Answer} {k : Keeper} {before after : List ℕ} {n : ℕ} → Wrote a k before after n → length after ≡ length before → n ≤ length before
 wrote_within {a} {k} {before} w same =
@@ -68,11 +70,24 @@ module _ (k : Keeper) (line : List ℕ) where
 
 -- ---- the number returned
 
+refusal_small : (r : Refusal) → number r ≤ most_number
+refusal_small R.NoShape = omega arith
+refusal_small R.OutsideLimits = omega arith
+refusal_small R.OutOfTurn = omega arith
+refusal_small R.OwnBoard = omega arith
+refusal_small R.LeavesRange = omega arith
+refusal_small R.PeerWaits = omega arith
+refusal_small R.NoRequest = omega arith
+refusal_small R.TooLate = omega arith
+refusal_small R.TagsUsedUp = omega arith
+refusal_small R.NoRoom = omega arith
+refusal_small R.NoDate = omega arith
+refusal_small R.EmptyWindow = omega arith
+
 module _ (k : Keeper) (line : List ℕ) where
   read_most : (r : Reading) → number_of (by_reading r k).answer ≤ most_number
-  read_most (Accepted c) = rw (apply_number k c) (refusal_most (state_of k) c)
-  read_most NoShape = omega arith
-  read_most OutsideLimits = omega arith
+  read_most (Ok c) = rw (apply_number k c) (refusal_most (state_of k) c)
+  read_most (Err r) = refusal_small r
 
   -- no call returns a number above the table's greatest
   pub number_most : (room : ℕ) → number_after k line room ≤ most_number

@@ -1,10 +1,10 @@
 -- What a call with a line does: a keeper, a line of any bytes and a lent output of any length; back come the number, the keeper and the
 -- output. Document 01, 'Causes of a refusal': 'tried in the order 10, 1, 2, ..'.
-use Rattle.std.specs.Prelude.{◌≡◌, Bool, true, false, List, [], ◌∷◌, ◌++◌, ℕ, ◌+◌, ◌≤◌, ltb, length, drop}
+use Rattle.std.specs.Prelude.{◌≡◌, Bool, false, List, [], ◌∷◌, ◌++◌, ℕ, ◌+◌, ◌≤◌, ltb, eqb, length, drop, Ok, Err}
 use Rattle.bits.specs.Choice.{choose}
 use Rattle.command.specs.Limits as R
-use Rattle.command.specs.declared.Reading.{Reading}
-use Rattle.command.specs.declared.Reading.TheVariants.{Accepted, NoShape, OutsideLimits}
+use Rattle.command.specs.Limits.{Reading}
+use Rattle.refusal.specs.Refusal.{number}
 use Rattle.reader.specs.Reading.{reading_of}
 use Rattle.command.specs.Causes.{Cause, cause, date_causes}
 use Rattle.keeper.specs.State.{State, state_of}
@@ -19,9 +19,8 @@ use Rattle.answers.specs.Answers.{line_of}
 
 -- What is answered to a line that was read: a command does what it does, and what is none is refused with the number of its reading.
 abbrev pub by_reading : Reading → Keeper → Outcome
-by_reading (Accepted c) k = apply k c
-by_reading NoShape k = outcome_of (A.Refused (R.number_of NoShape)) k
-by_reading OutsideLimits k = outcome_of (A.Refused (R.number_of OutsideLimits)) k
+by_reading (Ok c) k = apply k c
+by_reading (Err r) k = outcome_of (A.Refused (number r)) k
 
 unfoldable pub answered : Keeper → List ℕ → Outcome
 answered k line = by_reading (reading_of line) k
@@ -51,19 +50,16 @@ length_after k line room = choose (ltb room least_output) (λ _. 0) (λ _. lengt
 -- 'The first cause that holds is given, tried in the order 10, 1, 2', then those of dates, 'both after 2 and before 3', and then those that look
 -- at the keeper.
 abbrev pub is_no_shape : Reading → Bool
-is_no_shape (Accepted c) = false
-is_no_shape NoShape = true
-is_no_shape OutsideLimits = false
+is_no_shape (Ok c) = false
+is_no_shape (Err r) = eqb (number r) 1
 
 abbrev pub is_outside : Reading → Bool
-is_outside (Accepted c) = false
-is_outside NoShape = false
-is_outside OutsideLimits = true
+is_outside (Ok c) = false
+is_outside (Err r) = eqb (number r) 2
 
 abbrev pub command_causes : State → Reading → List Cause
-command_causes s (Accepted c) = date_causes (R.form_of c) ++ keeper_causes s c
-command_causes s NoShape = []
-command_causes s OutsideLimits = []
+command_causes s (Ok c) = date_causes (R.form_of c) ++ keeper_causes s c
+command_causes s (Err r) = []
 
 unfoldable pub call_causes : Keeper → List ℕ → ℕ → List Cause
 call_causes k line room =

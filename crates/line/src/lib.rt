@@ -10,11 +10,11 @@ ghost use Rattle.line.specs.Call.{answered, Wrote, Called};
 
 use answer_writer::put_answer;
 use answers::put_refusal;
-use command::Reading;
 use keeper::calls::apply_tested;
 use keeper::number::number_of;
 use keeper::{Answer, Keeper, Outcome};
 use reader::read_command;
+use refusal::Refusal;
 use writing::LEAST_OUTPUT;
 
 // The number returned, the keeper handed back, and the length written.
@@ -29,15 +29,10 @@ pub struct Response {
 fn answer_to(keeper: Keeper, line: &[u8]) -> Outcome
     ensures { result ≡ answered keeper line.now }
 {
-    let reading = read_command(line);
-    match reading {
-        Reading::Accepted(c) => apply_tested(keeper, c),
-        Reading::NoShape => Outcome {
-            answer: Answer::Refused(1),
-            keeper,
-        },
-        Reading::OutsideLimits => Outcome {
-            answer: Answer::Refused(2),
+    match read_command(line) {
+        Ok(command) => apply_tested(keeper, command),
+        Err(refusal) => Outcome {
+            answer: Answer::Refused(refusal.number()),
             keeper,
         },
     }
@@ -66,7 +61,7 @@ pub fn call(keeper: Keeper, line: &[u8], out: &mut [u8]) -> Response
 {
     if out.len() < LEAST_OUTPUT {
         return Response {
-            number: 10,
+            number: Refusal::NoRoom.number(),
             keeper,
             length: 0,
         };

@@ -3,14 +3,10 @@ use mathlib.Core.Path.{sym, ◌∙◌}
 use Rattle.line.specs.Call.{answered}
 use Rattle.line.proofs.answer_to.Goals as goal
 
-pub returns-in-Accepted : goal.returns-in-Accepted
+pub returns-in-Ok : goal.returns-in-Ok
 unfolding answered
-returns-in-Accepted c = rw (sym c.read_command-reading.ensures ∙ c.in-Accepted.is) c.apply_tested.ensures
+returns-in-Ok c = rw (sym c.read_command.ensures ∙ c.in-Ok.is) c.apply_tested.ensures
 
-pub returns-in-NoShape : goal.returns-in-NoShape
+pub returns-in-Err : goal.returns-in-Err
 unfolding answered
-returns-in-NoShape c = rw (sym c.read_command-reading.ensures ∙ c.in-NoShape.is)
-
-pub returns-in-OutsideLimits : goal.returns-in-OutsideLimits
-unfolding answered
-returns-in-OutsideLimits c = rw (sym c.read_command-reading.ensures ∙ c.in-OutsideLimits.is)
+returns-in-Err c = rw (sym c.read_command.ensures ∙ c.in-Err.is, c.number.ensures)

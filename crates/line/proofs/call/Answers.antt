@@ -6,7 +6,7 @@ use Rattle.line.proofs.ResponseLaws.{listed, called_untouched, called_wrote}
 use Rattle.line.proofs.call.Goals as goal
 
 pub returns-then-out-lt-LEAST_OUTPUT : goal.returns-then-out-lt-LEAST_OUTPUT
-returns-then-out-lt-LEAST_OUTPUT c = called_untouched _ _ c.if-out-lt-LEAST_OUTPUT.true
+returns-then-out-lt-LEAST_OUTPUT c = rw c.number.ensures (called_untouched _ _ c.if-out-lt-LEAST_OUTPUT.true)
 
 pub write_answer-length-requires : goal.write_answer-length-requires
 write_answer-length-requires c =
