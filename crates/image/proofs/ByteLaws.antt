@@ -1,69 +1,25 @@
--- Laws of numbers as bytes: longer numbers of shorter ones, and bytes put one run after the other.
-use mathlib.Core.Path.{◌≡◌, refl, ap, ◌∙◌}
-use mathlib.Core.List.{List, [], ◌∷◌, ◌++◌}
-use Prim.Native.Nat.{ℕ, ◌+◌, ◌*◌, ◌/◌, ◌%◌, ◌<◌}
+-- Laws of numbers as bytes: a number in a part of the bytes, and bytes put one run after the other.
+use mathlib.Core.Path.{◌≡◌, refl, sym, ap, ◌∙◌}
+use mathlib.Core.List.{List, [], ◌∷◌, ◌++◌, append_assoc}
+use Prim.Native.Nat.{ℕ, zero, suc, ◌+◌, ◌≤◌}
 use native.Mathlib.Omega.{arith}
-use lib.ListN.{length, get_or, set}
-use Rattle.image.specs.Bytes.{number, lowest_first, stored}
+use lib.ListN.{length, set, take, drop}
+use lib.Seq.{get_or-take, get_or-drop, drop-drop, sets, sets-eq}
+use Rattle.image.specs.Bytes.{number, stored}
 
--- ---- a number of twice the width
+-- ---- a number of a part of the bytes, and bytes in the place of a part
 
-pub number_2 : (at : ℕ) (l : List ℕ) → number 2 at l ≡ get_or l at 0 + get_or l (at + 1) 0 * 256
+number_run : (w i at n : ℕ) (l : List ℕ) → i + w ≤ n → number w i (take n (drop at l)) ≡ number w (at + i) l
 unfolding number
-number_2 at l = omega arith
+number_run zero i at n l h = refl
+number_run (suc w) i at n l h =
+    let next : at + (i + 1) ≡ at + i + 1 = omega arith in
+    rw (get_or-take n (drop at l) i 0 (omega arith), get_or-drop at l i 0, number_run w (i + 1) at n l (omega arith), next)
 
-pub number_4 : (at : ℕ) (l : List ℕ) → number 4 at l ≡ number 2 at l + number 2 (at + 2) l * 65536
-unfolding number
-number_4 at l =
-    let two : at + 1 + 1 ≡ at + 2 = omega arith in
-    rw two (omega arith)
-
-pub number_8 : (at : ℕ) (l : List ℕ) → number 8 at l ≡ number 4 at l + number 4 (at + 4) l * 4294967296
-unfolding number
-number_8 at l =
-    let four : at + 1 + 1 + 1 + 1 ≡ at + 4 = omega arith in
-    rw four (omega arith)
-
--- ---- the bytes of a number of twice the width
-
-same_2 : {a b c d : ℕ} → a ≡ c → b ≡ d → ◌≡◌ {A = List ℕ} (a ∷ b ∷ []) (c ∷ d ∷ [])
-same_2 p q = rw (p, q)
-
-pub lowest_2 : (n : ℕ) → n < 65536 → lowest_first 2 n ≡ n % 256 ∷ n / 256 ∷ []
-unfolding lowest_first
-lowest_2 n h = same_2 refl (omega arith)
-
-pub lowest_4 : (n : ℕ) → lowest_first 4 n ≡ lowest_first 2 (n % 65536) ++ lowest_first 2 (n / 65536)
-unfolding lowest_first
-lowest_4 n =
-    let down : n / 256 / 256 ≡ n / 65536 = omega arith in
-    let half : n / 256 ≡ 256 * (n / 65536) + n % 65536 / 256 = omega arith in
-    let a : n % 65536 % 256 ≡ n % 256 = omega arith in
-    let low : n % 65536 / 256 % 256 ≡ n % 65536 / 256 = omega arith in
-    let b : n / 256 % 256 ≡ n % 65536 / 256 = omega arith in
-    rw (a, b, low, down)
-
--- the first four bytes are those of the remainder
-low_4 : (n : ℕ) → lowest_first 4 n ≡ lowest_first 4 (n % 4294967296)
-unfolding lowest_first
-low_4 n =
-    let q = n / 4294967296 in
-    let r = n % 4294967296 in
-    let p₁ : n / 256 ≡ 16777216 * (n / 4294967296) + n % 4294967296 / 256 = omega arith in
-    let p₂ : n / 256 / 256 ≡ 65536 * (n / 4294967296) + n % 4294967296 / 256 / 256 = omega arith in
-    let p₃ : n / 256 / 256 / 256 ≡ 256 * (n / 4294967296) + n % 4294967296 / 256 / 256 / 256 = omega arith in
-    let p₄ : n / 256 / 256 / 256 / 256 ≡ n / 4294967296 + n % 4294967296 / 256 / 256 / 256 / 256 = omega arith in
-    let a : n % 256 ≡ n % 4294967296 % 256 = omega arith in
-    let b : n / 256 % 256 ≡ n % 4294967296 / 256 % 256 = omega arith in
-    let c : n / 256 / 256 % 256 ≡ n % 4294967296 / 256 / 256 % 256 = omega arith in
-    let d : n / 256 / 256 / 256 % 256 ≡ n % 4294967296 / 256 / 256 / 256 % 256 = omega arith in
-    rw (a, b, c, d)
-
-pub lowest_8 : (n : ℕ) → lowest_first 8 n ≡ lowest_first 4 (n % 4294967296) ++ lowest_first 4 (n / 4294967296)
-unfolding lowest_first
-lowest_8 n =
-    let down : n / 256 / 256 / 256 / 256 ≡ n / 4294967296 = omega arith in
-    ap (λ (x : List ℕ). x ++ lowest_first 4 (n / 256 / 256 / 256 / 256)) (low_4 n) ∙ ap (λ (m : ℕ). lowest_first 4 (n % 4294967296) ++ lowest_first 4 m) down
+pub number_part : (w at n : ℕ) (l : List ℕ) → w ≤ n → number w 0 (take n (drop at l)) ≡ number w at l
+number_part w at n l h =
+    let here : at + 0 ≡ at = omega arith in
+    number_run w 0 at n l (omega arith) ∙ ap (λ (i : ℕ). number w i l) here
 
 -- ---- runs of bytes put one after the other
 
@@ -72,3 +28,18 @@ unfolding stored
 stored_more l at [] t = ap (λ (n : ℕ). stored l n t) (omega arith)
 stored_more l at (b ∷ s) t =
     ap (λ (n : ℕ). stored (stored (set l at b) (at + 1) s) n t) (omega arith) ∙ stored_more (set l at b) (at + 1) s t
+
+stored_sets : (l : List ℕ) (at : ℕ) (s : List ℕ) → stored l at s ≡ sets l at s
+unfolding stored
+stored_sets l at [] = refl
+stored_sets l at (b ∷ s) = ap (λ (n : ℕ). stored (set l at b) n s) (omega arith) ∙ stored_sets (set l at b) (suc at) s
+
+pub stored_part : (l : List ℕ) (at : ℕ) (s : List ℕ) → at + length s ≤ length l → stored l at s ≡ take at l ++ (s ++ drop (at + length s) l)
+stored_part l at s h = stored_sets l at s ∙ sets-eq s l at h ∙ append_assoc (take at l) s (drop (at + length s) l)
+
+-- in the place of a part of w bytes
+pub stored_as : (l : List ℕ) (at w n : ℕ) (s t : List ℕ) → n ≡ w → length s ≡ w → t ≡ s → at + w ≤ length l
+    → take at l ++ (t ++ drop n (drop at l)) ≡ stored l at s
+stored_as l at w n s t width long same room =
+    let past : at + w ≡ at + length s = omega (arith, long) in
+    rw (width, same, drop-drop w at l, past) (sym (stored_part l at s (omega (arith, long))))

@@ -1,6 +1,5 @@
 -- Laws about the definitions of specs/.
 pub mod ByteLaws
-pub mod SignLaws
 pub mod LoadLaws
 pub mod LayoutLaws
 pub mod StoreLaws

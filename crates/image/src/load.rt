@@ -1,40 +1,24 @@
 // The keeper of an image.
-ghost use Rattle.std.specs.Prelude.{◌≡◌, true, ◌+◌, ◌≤◌, length};
+ghost use Rattle.std.specs.Prelude.{◌≡◌, ◌+◌, ◌*◌, ◌≤◌, length, map};
 ghost use Rattle.image.specs.Bytes.{numbers};
 ghost use Rattle.image.specs.Layout.{image_length, keeper_in, keeper_at, readable, rule_of};
 
-use crate::bytes::{load_2, load_4, load_8, signed_of};
+use crate::bytes::{Number, load_number};
 use crate::{VERSION, is_image};
 use keeper::Keeper;
 use moment::Interval;
 use rules::Rule;
 
-// The sixteen numbers of 4 bytes from a place on: the tags, or flight times.
-fn load_16_4(image: &[u8], at: usize) -> [u32; 16]
-    requires { at + 64 ≤ length image.now }
-    ensures { result ≡ numbers 16 4 at image.now }
+// The sixteen numbers that stand one after the other from a place on.
+fn load_sixteen<const WIDTH: usize, N: Number<WIDTH>>(image: &[u8], at: usize) -> [N; 16]
+    requires { at + 16 * WIDTH ≤ length image.now }
+    ensures { result ≡ map N.of_bits (numbers 16 WIDTH at image.now) }
 {
-    let mut loaded = [0u32; 16];
-    let mut p = 0;
-    while p < 16 {
-        loaded[p] = load_4(image, at + 4 * p);
-        p += 1;
+    let mut loaded = [N::from_bytes(&[0; WIDTH]); 16];
+    for (p, n) in loaded.iter_mut().enumerate() {
+        *n = load_number(image, at + WIDTH * p);
     }
     loaded
-}
-
-// The sixteen tick counts from a place on.
-fn load_counts(image: &[u8], at: usize) -> [u64; 16]
-    requires { at + 128 ≤ length image.now }
-    ensures { result ≡ numbers 16 8 at image.now }
-{
-    let mut counts = [0u64; 16];
-    let mut p = 0;
-    while p < 16 {
-        counts[p] = load_8(image, at + 8 * p);
-        p += 1;
-    }
-    counts
 }
 
 fn rule_of(mm: bool) -> Rule
@@ -44,19 +28,11 @@ fn rule_of(mm: bool) -> Rule
 }
 
 // Whether the image can be read.
+#[tactic(auto, unfolding(crate::specs::Layout::readable))]
 fn is_readable(image: &[u8]) -> bool
     ensures { result ≡ readable image.now }
 {
-    if !is_image(image) {
-        return false;
-    }
-    if image[0] != VERSION {
-        return false;
-    }
-    if 1 < image[1] {
-        return false;
-    }
-    image[3] <= 1
+    is_image(image) && image[0] == VERSION && image[1] <= 1 && image[3] <= 1
 }
 
 // What stands in an image of the right length.
@@ -68,19 +44,19 @@ fn load_all(image: &[u8]) -> Keeper
         started: image[1] == 1,
         board: image[2],
         rule: rule_of(image[3] == 1),
-        claim: load_2(image, 4),
+        claim: load_number(image, 4),
         edges: Interval {
-            lower: signed_of(load_8(image, 8)),
-            upper: signed_of(load_8(image, 16)),
+            lower: load_number(image, 8),
+            upper: load_number(image, 16),
         },
-        ticks: load_8(image, 24),
-        requests: load_4(image, 32),
-        conflicts: load_4(image, 36),
-        waiting: load_2(image, 6),
-        tags: load_16_4(image, 40),
-        sent_at: load_counts(image, 104),
-        out: load_16_4(image, 232),
-        back: load_16_4(image, 296),
+        ticks: load_number(image, 24),
+        requests: load_number(image, 32),
+        conflicts: load_number(image, 36),
+        waiting: load_number(image, 6),
+        tags: load_sixteen(image, 40),
+        sent_at: load_sixteen(image, 104),
+        out: load_sixteen(image, 232),
+        back: load_sixteen(image, 296),
     }
 }
 

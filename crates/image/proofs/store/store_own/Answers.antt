@@ -1,19 +1,26 @@
--- Three runs of bytes, one after the other.
-use mathlib.Core.Path.{ap, ◌∙◌}
-use mathlib.Core.List.{List, ◌++◌}
-use Prim.Native.Nat.{ℕ}
-use Rattle.image.specs.Bytes.{stored, lowest_first}
-use Rattle.image.specs.Layout.{head_bytes, edge_bytes, count_bytes}
-use Rattle.image.proofs.ByteLaws.{stored_more}
+-- One field after the other.
+use mathlib.Core.Path.{◌≡◌, refl, ◌∙◌}
+use mathlib.Core.Bool.{Bool, true, false}
+use mir.Val.{bool_byte}
+use lib.ListN.{set}
+use Rattle.image.specs.Bytes.{lowest_first}
+use Rattle.image.specs.Layout.{flag, mark_bytes}
+use Rattle.image.proofs.StoreLaws.{Put, first_four, then}
 use Rattle.image.proofs.store.store_own.Goals as goal
+
+flag_byte : (set : Bool) → bool_byte set ≡ flag set
+flag_byte true = refl
+flag_byte false = refl
 
 pub returns : goal.returns
 unfolding lowest_first
 returns c =
-    let x = c.args in
-    let l = x.image.now in
-    let k = x.keeper in
-    c.store_numbers.ensures
-    ∙ ap (λ (y : List ℕ). stored y 24 (count_bytes k))
-    (c.store_edges.ensures ∙ ap (λ (y : List ℕ). stored y 8 (edge_bytes k.edges)) c.store_head.ensures ∙ stored_more l 0 (head_bytes k) (edge_bytes k.edges))
-    ∙ stored_more l 0 (head_bytes k ++ edge_bytes k.edges) (count_bytes k)
+    let k = c.args.keeper in
+    let l = c.args.image.now in
+    let marks : Put l 0 4 (mark_bytes k) (set (set (set (set l 0 2) 1 c.from.result) 2 k.board) 3 c.from-2.result) =
+    rw (c.from.ensures ∙ flag_byte k.started, c.from-2.ensures) (first_four l _ _ _ _)
+    in
+    let heads = then _ _ (then _ _ marks refl c.store_number.ensures) refl c.store_number-2.ensures in
+    let edges = then _ _ heads refl c.store_edges.ensures in
+    let counts = then _ _ (then _ _ edges refl c.store_number-3.ensures) refl c.store_number-4.ensures in
+    (then _ _ counts refl c.store_number-5.ensures).is
