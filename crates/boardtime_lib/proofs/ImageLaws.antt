@@ -8,8 +8,12 @@ use native.Mathlib.Omega.{arith}
 use Rattle.command.specs.Limits.{ticks_within}
 use Rattle.command.specs.declared.Command.{Command}
 use Rattle.command.specs.declared.Command.TheVariants as C
-use Rattle.command.specs.declared.Reading.{Reading}
-use Rattle.command.specs.declared.Reading.TheVariants.{Accepted, NoShape, OutsideLimits}
+use borrow.Author.Tests.{eqb-false}
+use Rattle.std.specs.Prelude.{Ok, Err}
+use Rattle.command.specs.Limits.{Reading}
+use Rattle.refusal.specs.declared.Refusal.{Refusal}
+use Rattle.refusal.specs.Refusal.{number}
+use Rattle.refusal.proofs.Numbers.{not_zero}
 use Rattle.reader.specs.Reading.{reading_of}
 use Rattle.keeper.specs.State.{fresh, state_of}
 use Rattle.command.specs.Causes.{first, own_causes}
@@ -70,7 +74,7 @@ module _ (image : List ℕ) (whole : length image ≡ image_length) where
       → LineImage image line out (number_of o.answer + 256 * n) image' out'
   line_written {line} o room e wrote left = line_answered (called_wrote (keeper_in image) line o room e wrote) left
 
-  pub line_command : {line out image' out' : List ℕ} {r : ℕ} {c : Command} → least_output ≤ length out → reading_of line ≡ Accepted c
+  pub line_command : {line out image' out' : List ℕ} {r : ℕ} {c : Command} → least_output ≤ length out → reading_of line ≡ Ok c
       → CommandImage image c out r image' out' → LineImage image line out r image' out'
   unfolding answered
   line_command {c = c} room read command =
@@ -85,17 +89,11 @@ module _ (image : List ℕ) (whole : length image ≡ image_length) where
   line_none m some room e wrote =
       line_written (outcome_of (A.Refused m) (keeper_in image)) room e (wrote (keeper_in image)) (left_refused image m (keeper_in image) some)
 
-  pub line_no_shape : {line out out' : List ℕ} {n : ℕ} → least_output ≤ length out → reading_of line ≡ NoShape
-      → ((k : Keeper) → Wrote (A.Refused 1) k out out' n) → LineImage image line out (1 + 256 * n) image out'
+  pub line_err : {line out out' : List ℕ} {n : ℕ} (r : Refusal) → least_output ≤ length out → reading_of line ≡ Err r
+      → ((k : Keeper) → Wrote (A.Refused (number r)) k out out' n) → LineImage image line out (number r + 256 * n) image out'
   unfolding answered
-  line_no_shape room read wrote =
-      line_none 1 (λ e. let z : ◌≡◌ {A = ℕ} 1 0 = e in omega arith) room (ap (λ (x : Reading). by_reading x (keeper_in image)) read) wrote
-
-  pub line_outside : {line out out' : List ℕ} {n : ℕ} → least_output ≤ length out → reading_of line ≡ OutsideLimits
-      → ((k : Keeper) → Wrote (A.Refused 2) k out out' n) → LineImage image line out (2 + 256 * n) image out'
-  unfolding answered
-  line_outside room read wrote =
-      line_none 2 (λ e. let z : ◌≡◌ {A = ℕ} 2 0 = e in omega arith) room (ap (λ (x : Reading). by_reading x (keeper_in image)) read) wrote
+  line_err r room read wrote =
+      line_none (number r) (eqb-false _ _ (not_zero r)) room (ap (λ (x : Reading). by_reading x (keeper_in image)) read) wrote
 
   pub pass_moved : {image' : List ℕ} {k next : Keeper} {ticks number r : ℕ} → k ≡ keeper_in image → PassLent k ticks number next → r ≡ number
       → image' ≡ image_left image r next → PassImage image ticks r image'

@@ -6,7 +6,6 @@ ghost use Rattle.std.specs.Prelude.{◌≡◌};
 ghost use Rattle.boardtime_lib.specs.Images.{FreshImage, LineImage, PassImage};
 
 use changes::store_passed;
-use command::Reading;
 use command::limits::ticks_within;
 use image::is_image;
 use image::load::load;
@@ -16,17 +15,11 @@ use lent::pass;
 use line::write_refusal;
 use on_image::answer_command;
 use reader::read_command;
+use refusal::Refusal;
 use writing::{LEAST_OUTPUT, returned};
 
 // Returned for a buffer that has not the length of an image. No refusal of document 01 or 02 has this number.
 pub const WRONG_LENGTH: u8 = 255;
-
-// Document 01's numbers: for a line that is no command shape, for a number outside its limits, and for an output that is too short.
-const NO_SHAPE: u8 = 1;
-
-const OUTSIDE_LIMITS: u8 = 2;
-
-const NO_ROOM: u8 = 10;
 
 // Stores the image of a fresh keeper.
 #[unsafe(no_mangle)]
@@ -50,13 +43,14 @@ pub extern "C" fn boardtime_line(image: &mut [u8], line: &[u8], out: &mut [u8]) 
         return WRONG_LENGTH as u32;
     }
     if out.len() < LEAST_OUTPUT {
-        return NO_ROOM as u32;
+        return Refusal::NoRoom.number() as u32;
     }
-    let reading = read_command(line);
-    match reading {
-        Reading::Accepted(command) => answer_command(image, command, out),
-        Reading::NoShape => returned(NO_SHAPE, write_refusal(out, NO_SHAPE)),
-        Reading::OutsideLimits => returned(OUTSIDE_LIMITS, write_refusal(out, OUTSIDE_LIMITS)),
+    match read_command(line) {
+        Ok(command) => answer_command(image, command, out),
+        Err(refusal) => {
+            let number = refusal.number();
+            returned(number, write_refusal(out, number))
+        }
     }
 }
 
@@ -70,7 +64,7 @@ pub extern "C" fn boardtime_pass(image: &mut [u8], ticks: u64) -> u8
         return WRONG_LENGTH;
     }
     if !ticks_within(ticks) {
-        return OUTSIDE_LIMITS;
+        return Refusal::OutsideLimits.number();
     }
     let passed = pass(load(image), ticks as u32);
     let refusal = passed.number;

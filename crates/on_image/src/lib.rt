@@ -13,6 +13,7 @@ use image::store::store;
 use keeper::calls::apply_command;
 use keeper::number::number_of;
 use keeper::steps::begun_with;
+use keeper::tested::Tested;
 use keeper::{Answer, Keeper};
 use line::write_answer;
 use writing::returned;
@@ -28,30 +29,20 @@ fn store_changes(image: &mut [u8], answer: Answer, keeper: Keeper)
             let rule = keeper.rule;
             store(image, begun_with(keeper.board, rule, keeper.claim, edges))
         }
-        Answer::At(_, _) => store_passed(image, edges, keeper.ticks),
+        Answer::At(..) => store_passed(image, edges, keeper.ticks),
         Answer::Sent(peer, _) => {
             store_asked(image, keeper.waiting, keeper.requests, peer, keeper.ticks)
         }
-        Answer::Replied(peer, _) => {
+        Answer::Replied(peer, _) | Answer::Dropped(peer) => {
             store_ended(image, keeper.waiting, edges, keeper.conflicts, peer)
         }
-        Answer::Dropped(peer) => store_ended(image, keeper.waiting, edges, keeper.conflicts, peer),
-        Answer::Time {
-            edges: _,
-            centre: _,
-            error: _,
-            conflicts: _,
-            waiting: _,
-        } => {}
-        Answer::Waiting => {}
-        Answer::Heater(_, _) => {}
         // The arrays are lent from locals of their own: to lend a field, all of the keeper would be copied first.
         Answer::Flight(peer) => {
             let out = keeper.out;
             let back = keeper.back;
             store_flight(image, peer, &out, &back)
         }
-        Answer::Refused(_) => {}
+        Answer::Time { .. } | Answer::Waiting | Answer::Heater(..) | Answer::Refused(_) => {}
     }
 }
 
@@ -62,8 +53,7 @@ pub fn answer_command(image: &mut [u8], command: Command, out: &mut [u8]) -> u32
     ensures { CommandImage image.old command out.old result image.new out.new }
 {
     let keeper = load(image);
-    let started = keeper.counts_as_started();
-    let outcome = apply_command(keeper, started, command);
+    let outcome = apply_command(Tested::of(keeper), command);
     let answer = outcome.answer;
     let next = outcome.keeper;
     let length = write_answer(out, answer, next);

@@ -4,14 +4,14 @@ use mathlib.Core.Path.{◌≡◌, sym, ◌∙◌}
 use borrow.Author.Tests.{eqb-true, eqb-false}
 use lib.ListN.{length}
 use Rattle.image.specs.Layout.{image_length, keeper_in}
-use Rattle.boardtime_lib.proofs.ImageLaws.{line_refused, line_short, line_command, line_no_shape, line_outside}
+use Rattle.boardtime_lib.proofs.ImageLaws.{line_refused, line_short, line_command, line_err}
 use Rattle.boardtime_lib.proofs.boardtime_line.Goals as goal
 
 pub returns-then-not-is_image : goal.returns-then-not-is_image
 returns-then-not-is_image c = line_refused _ (eqb-false _ _ (sym c.is_image.ensures ∙ c.if-not-is_image.true)) _ _
 
 pub returns-then-out-lt-LEAST_OUTPUT : goal.returns-then-out-lt-LEAST_OUTPUT
-returns-then-out-lt-LEAST_OUTPUT c = line_short _ (eqb-true _ _ (sym c.is_image.ensures ∙ c.if-not-is_image.false)) _ c.if-out-lt-LEAST_OUTPUT.true
+returns-then-out-lt-LEAST_OUTPUT c = rw c.number.ensures (line_short _ (eqb-true _ _ (sym c.is_image.ensures ∙ c.if-not-is_image.false)) _ c.if-out-lt-LEAST_OUTPUT.true)
 
 pub answer_command-requires : goal.answer_command-requires
 answer_command-requires c =
@@ -23,31 +23,17 @@ answer_command-requires c =
 pub returned-requires : goal.returned-requires
 returned-requires c = (c.write_refusal.ensures (keeper_in c.args.image.now)).short
 
-pub returned-requires-in-OutsideLimits : goal.returned-requires-in-OutsideLimits
-returned-requires-in-OutsideLimits c = (c.write_refusal-in-OutsideLimits.ensures (keeper_in c.args.image.now)).short
-
-pub returns-in-Accepted : goal.returns-in-Accepted
-returns-in-Accepted c =
+pub returns-in-Ok : goal.returns-in-Ok
+returns-in-Ok c =
     let whole : length c.args.image.now ≡ image_length =
     eqb-true _ _ (sym c.is_image.ensures ∙ c.if-not-is_image.false)
     in
-    let a = c.answer_command in
-    line_command _ (whole) c.if-out-lt-LEAST_OUTPUT.false (sym c.read_command-reading.ensures ∙ c.in-Accepted.is) a.ensures
+    line_command _ whole c.if-out-lt-LEAST_OUTPUT.false (sym c.read_command.ensures ∙ c.in-Ok.is) c.answer_command.ensures
 
-pub returns-in-NoShape : goal.returns-in-NoShape
-returns-in-NoShape c =
+pub returns-in-Err : goal.returns-in-Err
+returns-in-Err c =
     let whole : length c.args.image.now ≡ image_length =
     eqb-true _ _ (sym c.is_image.ensures ∙ c.if-not-is_image.false)
     in
-    let w = c.write_refusal in
-    rw c.returned.ensures
-    (line_no_shape _ (whole) c.if-out-lt-LEAST_OUTPUT.false (sym c.read_command-reading.ensures ∙ c.in-NoShape.is) w.ensures)
-
-pub returns-in-OutsideLimits : goal.returns-in-OutsideLimits
-returns-in-OutsideLimits c =
-    let whole : length c.args.image.now ≡ image_length =
-    eqb-true _ _ (sym c.is_image.ensures ∙ c.if-not-is_image.false)
-    in
-    let w = c.write_refusal-in-OutsideLimits in
-    rw c.returned-in-OutsideLimits.ensures
-    (line_outside _ (whole) c.if-out-lt-LEAST_OUTPUT.false (sym c.read_command-reading.ensures ∙ c.in-OutsideLimits.is) w.ensures)
+    rw (c.returned.ensures, c.number-number.ensures)
+    (line_err _ whole _ c.if-out-lt-LEAST_OUTPUT.false (sym c.read_command.ensures ∙ c.in-Err.is) (rw c.number-number.ensures at c.write_refusal.ensures))

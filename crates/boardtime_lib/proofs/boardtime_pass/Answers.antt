@@ -19,7 +19,7 @@ returns-then-not-is_image c = pass_refused _ (eqb-false _ _ (sym c.is_image.ensu
 pub returns-then-not-ticks_within : goal.returns-then-not-ticks_within
 returns-then-not-ticks_within c =
     let whole = eqb-true _ _ (sym c.is_image.ensures ∙ c.if-not-is_image.false) in
-    pass_too_long _ whole _ (sym c.ticks_within.ensures ∙ c.if-not-ticks_within.true)
+    rw c.number.ensures (pass_too_long _ whole _ (sym c.ticks_within.ensures ∙ c.if-not-ticks_within.true))
 
 pub overflow_cast-ticks : goal.overflow_cast-ticks
 overflow_cast-ticks c = omega (arith, ticks_bound _ (sym c.ticks_within.ensures ∙ c.if-not-ticks_within.false))
