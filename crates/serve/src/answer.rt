@@ -3,9 +3,9 @@ ghost use Rattle.std.specs.Prelude.{drop};
 ghost use Rattle.serve.specs.Serving.{LinesAnswered};
 
 use crate::put_back::put_back;
-use command::Reading;
 use keeper::calls::apply_command;
 use keeper::number::number_of;
+use keeper::tested::Tested;
 use keeper::{Answer, Keeper};
 use line::write_answer;
 use lines::line_end;
@@ -24,7 +24,7 @@ pub struct Lines {
 
 // Answers every whole line from a place on, while the output has room for one more answer. The keeper is tested once: after an accepted line
 // it counts as started, and a refused line leaves it as it was. It is put back only after a command, and each function on the way of a line is
-// called in one place, so that the compiler makes it a part of the loop. A line is refused with 1 unless it is read as something else.
+// called in one place, so that the compiler makes it a part of the loop.
 pub fn answer_lines(keeper: Keeper, bytes: &[u8], from: usize, out: &mut [u8]) -> Lines
     ensures { LinesAnswered keeper (drop from bytes.now) out.old result.keeper (drop result.from bytes.now) result.filled result.full out.new }
 {
@@ -37,19 +37,15 @@ pub fn answer_lines(keeper: Keeper, bytes: &[u8], from: usize, out: &mut [u8]) -
         if out.len() - filled < LEAST_OUTPUT {
             break;
         }
-        let reading = read_command(&bytes[next..at]);
-        let mut answer = Answer::Refused(1);
-        match reading {
-            Reading::Accepted(c) => {
-                let outcome = apply_command(now, started, c);
-                answer = outcome.answer;
-                now = put_back(now, answer, outcome.keeper);
+        let answer = match read_command(&bytes[next..at]) {
+            Ok(command) => {
+                let keeper = now;
+                let outcome = apply_command(Tested { keeper, started }, command);
+                now = put_back(now, outcome.answer, outcome.keeper);
+                outcome.answer
             }
-            Reading::NoShape => {}
-            Reading::OutsideLimits => {
-                answer = Answer::Refused(2);
-            }
-        }
+            Err(refusal) => Answer::Refused(refusal.number()),
+        };
         if number_of(answer) == 0 {
             started = true;
         }

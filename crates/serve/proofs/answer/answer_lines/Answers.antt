@@ -8,9 +8,10 @@ use Rattle.keeper.specs.State.{counts_as_started}
 use Rattle.keeper.specs.Apply.{outcome_of, number_of}
 use Rattle.keeper.specs.declared.Outcome.{Outcome}
 use Rattle.keeper.specs.declared.Answer.{Answer}
+use Rattle.keeper.specs.declared.Answer.TheVariants as A
 use Rattle.keeper.specs.declared.Keeper.{Keeper}
 use Rattle.keeper.proofs.StartedLaws.{Sized}
-use Rattle.command.specs.declared.Reading.{Reading}
+use Rattle.command.specs.Limits.{Reading}
 use Rattle.reader.specs.Reading.{reading_of}
 use Rattle.line.specs.Call.{by_reading, answered, Wrote}
 use Rattle.line.proofs.ResponseLaws.{listed}
@@ -18,14 +19,11 @@ use Rattle.line.proofs.AnsweredLaws.{refused_same, answered_starts, answered_siz
 use Rattle.serve.proofs.PutBackLaws.{put_back_same}
 use Rattle.serve.proofs.ServingLaws.{Step, none_answered, part_room, line_answered, filled_within, stopped_full, stopped_done}
 use Rattle.serve.proofs.answer.answer_lines.Goals as goal
-use Rattle.serve.proofs.answer.answer_lines.Goals.{in-Accepted, in-NoShape, in-OutsideLimits, then-number_of-eq0, else-number_of-eq0, else-loop-at-test, then-loop-at-test+then-out-filled-lt-LEAST_OUTPUT}
+use Rattle.serve.proofs.answer.answer_lines.Goals.{in-Ok, in-Err, then-number_of-eq0, else-number_of-eq0, else-loop-at-test, then-loop-at-test+then-out-filled-lt-LEAST_OUTPUT}
 
 pub loop-at-init : goal.loop-at-init
 loop-at-init c =
     (refl, omega arith, c.line_end-at.ensures, none_answered _ _ _, c.counts_as_started-started.ensures, record { mask = search rules; tags = search rules; sent = search rules; out = search rules; back = search rules })
-
-pub apply_command-outcome-requires : goal.apply_command-outcome-requires
-apply_command-outcome-requires c = c.loop-at.invariant.4
 
 outcome-made : {a b : Answer} {k l : Keeper} → k ≡ l → a ≡ b → outcome_of a k ≡ outcome_of b l
 outcome-made e f = rw (e, f)
@@ -36,16 +34,15 @@ write_answer-length-requires c =
     -- the line of this turn
     let line = take (c.loop-at.at - c.loop-at.next) (drop c.loop-at.next c.args.bytes.now) in
     let before = c.loop-at.now in
-    let outcome-is : outcome_of c.match-reading.answer c.match-reading.now ≡ answered before line =
-    let by : (r : Reading) → c.read_command-reading.result ≡ r → by_reading r before ≡ by_reading (reading_of line) before =
-    λ r e. ap (λ (x : Reading). by_reading x before) (sym e ∙ c.read_command-reading.ensures) in
-    elim c.match-reading.branch [
-      | in-Accepted w ↦
+    let outcome-is : outcome_of c.match-read_command.answer c.match-read_command.now ≡ answered before line =
+    let by : (r : Reading) → c.read_command.result ≡ r → by_reading r before ≡ by_reading (reading_of line) before =
+    λ r e. ap (λ (x : Reading). by_reading x before) (sym e ∙ c.read_command.ensures) in
+    elim c.match-read_command.branch [
+      | in-Ok w ↦
           outcome-made (w.now-is ∙ w.put_back-now.ensures ∙ put_back_same _ _ w.apply_command-outcome.ensures) w.answer-is
           ∙ w.apply_command-outcome.ensures
-          ∙ by _ w.in-Accepted.is
-      | in-NoShape w ↦ outcome-made w.now-is w.answer-is ∙ by _ w.in-NoShape.is
-      | in-OutsideLimits w ↦ outcome-made w.now-is w.answer-is ∙ by _ w.in-OutsideLimits.is
+          ∙ by _ w.in-Ok.is
+      | in-Err w ↦ outcome-made w.now-is (w.answer-is ∙ ap A.Refused w.number.ensures) ∙ by _ w.in-Err.is
     ]
     in
     let k = c.loop-at in
@@ -67,21 +64,20 @@ loop-at-preserved c =
     -- the line of this turn
     let line = take (c.loop-at.at - c.loop-at.next) (drop c.loop-at.next c.args.bytes.now) in
     let before = c.loop-at.now in
-    let outcome-is : outcome_of c.match-reading.answer c.match-reading.now ≡ answered before line =
-    let by : (r : Reading) → c.read_command-reading.result ≡ r → by_reading r before ≡ by_reading (reading_of line) before =
-    λ r e. ap (λ (x : Reading). by_reading x before) (sym e ∙ c.read_command-reading.ensures) in
-    elim c.match-reading.branch [
-      | in-Accepted w ↦
+    let outcome-is : outcome_of c.match-read_command.answer c.match-read_command.now ≡ answered before line =
+    let by : (r : Reading) → c.read_command.result ≡ r → by_reading r before ≡ by_reading (reading_of line) before =
+    λ r e. ap (λ (x : Reading). by_reading x before) (sym e ∙ c.read_command.ensures) in
+    elim c.match-read_command.branch [
+      | in-Ok w ↦
           outcome-made (w.now-is ∙ w.put_back-now.ensures ∙ put_back_same _ _ w.apply_command-outcome.ensures) w.answer-is
           ∙ w.apply_command-outcome.ensures
-          ∙ by _ w.in-Accepted.is
-      | in-NoShape w ↦ outcome-made w.now-is w.answer-is ∙ by _ w.in-NoShape.is
-      | in-OutsideLimits w ↦ outcome-made w.now-is w.answer-is ∙ by _ w.in-OutsideLimits.is
+          ∙ by _ w.in-Ok.is
+      | in-Err w ↦ outcome-made w.now-is (w.answer-is ∙ ap A.Refused w.number.ensures) ∙ by _ w.in-Err.is
     ]
     in
-    let started-is : c.if-number_of-eq0.started ≡ counts_as_started c.match-reading.now =
+    let started-is : c.if-number_of-eq0.started ≡ counts_as_started c.match-read_command.now =
     let k = c.loop-at in
-    let keeper_is : counts_as_started c.match-reading.now ≡ counts_as_started (answered before line).keeper =
+    let keeper_is : counts_as_started c.match-read_command.now ≡ counts_as_started (answered before line).keeper =
     ap (λ (o : Outcome). counts_as_started o.keeper) outcome-is
     in
     let number_is : c.number_of.result ≡ number_of (answered before line).answer =
@@ -97,7 +93,7 @@ loop-at-preserved c =
     let a = c.args in
     let same = outcome-is in
     let within = filled_within k.out k.filled k.invariant.1 w.auto.out w.ensures in
-    let step : Step before line (take (length k.out - k.filled) (drop k.filled k.out)) c.match-reading.now w.new.out w.result =
+    let step : Step before line (take (length k.out - k.filled) (drop k.filled k.out)) c.match-read_command.now w.new.out w.result =
     record {
       keeper_is = ap (λ (o : Outcome). o.keeper) same;
       wrote = subst (λ (o : Outcome). Wrote o.answer o.keeper (take (length k.out - k.filled) (drop k.filled k.out)) w.new.out w.result) same w.ensures;
