@@ -7,7 +7,8 @@ use native.Mathlib.Omega.{arith}
 use borrow.Author.Tests.{lt-leb}
 use lib.ListN.{length, take}
 use lib.Seq.{take-add, drop-append-le, length-take-le}
-use Rattle.command.specs.declared.Reading.TheVariants.{NoShape}
+use Rattle.std.specs.Prelude.{Err}
+use Rattle.refusal.specs.declared.Refusal.TheVariants.{NoShape}
 use Rattle.reader.specs.Reading.{longest_line, reading_of}
 use Rattle.keeper.specs.State.{fresh}
 use Rattle.keeper.specs.declared.Keeper.{Keeper}
@@ -22,14 +23,13 @@ use Rattle.stream.proofs.SoFar.{whole_lines_answered}
 use Rattle.stream.proofs.Theorem.{answers_the_input}
 use Rattle.serve.specs.Serving.{keeper_next, answer_to}
 use Rattle.program.specs.Turning.{between, InOrder, Turned}
-use Rattle.program.specs.Reading.{Read}
+use Rattle.program.specs.Reading.{Values, Read}
 use Rattle.program.specs.Program.{came, Program, begun, turned, input_of, AnswersTheLines, AnswersTheWholeLines}
 use Rattle.program.specs.declared.turn.Stream.{Stream}
-use Rattle.program.specs.declared.read.Got.{Got}
 
 -- ---- every line that is too long is answered alike
 
-too_long : (l : List ℕ) → longest_line < length l → reading_of l ≡ NoShape
+too_long : (l : List ℕ) → longest_line < length l → reading_of l ≡ Err NoShape
 unfolding reading_of
 too_long l h = rw (lt-leb _ _ h)
 
@@ -53,7 +53,7 @@ through_is k (l ∷ ls) = through_is (keeper_next k l) ls
 -- ---- the turns of the loop
 
 -- what a read brings stands behind what was left
-pub between_more : {buffer : List ℕ} (s : Stream) {g : Got} {buffer₁ : List ℕ} → InOrder s buffer → Read s buffer g buffer₁
+pub between_more : {buffer : List ℕ} (s : Stream) {g : Values} {buffer₁ : List ℕ} → InOrder s buffer → Read s buffer g buffer₁
     → between buffer₁ s.from (s.end + g.count) ≡ between buffer s.from s.end ++ came s g buffer₁
 between_more {buffer} s {g} {buffer₁} o r =
     let size : length (take s.end buffer) ≡ s.end = length-take-le s.end buffer o.within in
@@ -106,7 +106,7 @@ whole_run steps k left full input written {k'} {after} {o} {full'} turns none go
     }
 
 module _
-    {s r : Stream} {g : Got} {buffer buffer₁ buffer₂ out out' input written : List ℕ}
+    {s r : Stream} {g : Values} {buffer buffer₁ buffer₂ out out' input written : List ℕ}
     (p : Program s buffer input written) (read : Read s buffer g buffer₁) (last : g.last ≡ true) (whole : g.failed ≡ false)
     (t : Turned s g.count buffer₁ out r buffer₂ out')
   where

@@ -14,11 +14,10 @@ use Rattle.lines.specs.Lines.{lf}
 use Rattle.stream.specs.Stream.{answers_to}
 use Rattle.serve.specs.Serving.{keeper_next, answer_to, answers}
 use Rattle.program.specs.Turning.{Turned}
-use Rattle.program.specs.Reading.{Read, Came}
+use Rattle.program.specs.Reading.{Values, Read, Came}
 use Rattle.program.specs.Program.{Program, start, begun, turned, came}
 use Rattle.program.specs.Served.{Flow, Served}
 use Rattle.program.specs.declared.turn.Stream.{Stream}
-use Rattle.program.specs.declared.read.Got.{Got}
 use Rattle.program.specs.declared.Ended.TheVariants.{InputEnded, ReadingFailed, TurnsUsedUp}
 use Rattle.program.proofs.ProgramLaws.{program_answers, program_so_far}
 
@@ -97,7 +96,7 @@ used_up p most =
     }
 
 module _
-    {n : ℕ} {s : Stream} {g : Got} {buffer buffer₁ : List ℕ} {unread unread₁ unread₂ held held₁ : Option (List ℕ)}
+    {n : ℕ} {s : Stream} {g : Values} {buffer buffer₁ : List ℕ} {unread unread₁ unread₂ held held₁ : Option (List ℕ)}
     (p : SoFar n s buffer unread unread₁ held held₁) (read : Read s buffer g buffer₁) (new : Came unread₁ unread₂ s g buffer₁)
   where
     -- a read that failed: no whole line waits, and nothing came

@@ -8,23 +8,22 @@ use Rattle.history.specs.Demand3.{keeper_through, Demand3}
 use Rattle.lines.specs.Lines.{breaks, lines_of}
 use Rattle.serve.specs.Serving.{answers}
 use Rattle.program.specs.Turning.{Turned}
-use Rattle.program.specs.Reading.{Read}
+use Rattle.program.specs.Reading.{Values, Read}
 use Rattle.program.specs.declared.turn.Stream.{Stream}
-use Rattle.program.specs.declared.read.Got.{Got}
 
 -- The program at its start: a fresh keeper, and nothing read.
 abbrev pub start : Stream
 start = record { keeper = fresh; from = 0; end = 0; filled = 0; full = false }
 
 -- the bytes that came by a read
-abbrev pub came : Stream → Got → List ℕ → List ℕ
+abbrev pub came : Stream → Values → List ℕ → List ℕ
 came s g buffer = take g.count (drop s.end buffer)
 
 -- The program after some turns, with its buffer, all bytes that came, and all that it had to write. Each turn is a read and what `turn`
 -- makes of it; nothing is known of the bytes that a read brings.
 pub data Program : Stream → List ℕ → List ℕ → List ℕ → Type 0 where
   begun : {buffer : List ℕ} → Program start buffer [] []
-  turned : {s r : Stream} {g : Got} {buffer buffer₁ buffer₂ out out' input written : List ℕ} → Program s buffer input written
+  turned : {s r : Stream} {g : Values} {buffer buffer₁ buffer₂ out out' input written : List ℕ} → Program s buffer input written
       → Read s buffer g buffer₁ → g.last ≡ false → Turned s g.count buffer₁ out r buffer₂ out'
       → Program r buffer₂ (input ++ came s g buffer₁) (written ++ take r.filled out')
 

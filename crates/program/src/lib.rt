@@ -39,10 +39,9 @@ fn run<R: Read, W: Write>(input: &mut R, output: &mut W) -> Ended
         full: false,
     };
     for _ in 0..u64::MAX {
-        let got = read_more(s, &mut buffer, input);
-        if got.failed {
+        let Ok(got) = read_more(s, &mut buffer, input) else {
             return Ended::ReadingFailed;
-        }
+        };
         s = turn(s, got.count, &mut buffer, &mut out);
         if output.write_all(answers(s.filled, &out)).is_err() {
             return Ended::WritingFailed;

@@ -10,13 +10,13 @@ loop-init g c =
       so_far = rw c.fresh.ensures (begins _ _ _);
     }
 
-pub returns-then-got : goal.returns-then-got
-returns-then-got g c = failed c.loop.invariant.so_far c.read_more-got.ensures.read c.read_more-got.ensures.came c.if-got.true
+pub returns-in_default : goal.returns-in_default
+returns-in_default g c = failed c.loop.invariant.so_far c.in_default.ensures.read c.in_default.ensures.came refl
 
-pub returns-then-got-2 : goal.returns-then-got-2
-returns-then-got-2 g c =
+pub returns-then-got : goal.returns-then-got
+returns-then-got g c =
     let wrote = wrote_all _ _ c.write_all.result _ _ c.is_err.ensures.value c.if-is_err.false c.write_all.ensures.bytes c.answers.ensures in
-    ends c.loop.invariant.so_far c.read_more-got.ensures.read c.read_more-got.ensures.came c.turn-s.ensures wrote c.if-got-2.true c.if-got.false
+    ends c.loop.invariant.so_far c.in-Ok.ensures.read c.in-Ok.ensures.came c.turn-s.ensures wrote c.if-got.true refl
 
 pub loop-preserved : goal.loop-preserved
 loop-preserved g c =
@@ -24,8 +24,8 @@ loop-preserved g c =
     record {
       in_order = c.turn-s.ensures.in_order;
       so_far =
-          goes_on c.loop.invariant.so_far c.read_more-got.ensures.read c.read_more-got.ensures.came c.turn-s.ensures wrote c.if-got-2.false
-          c.read_more-got.ensures.some;
+          goes_on c.loop.invariant.so_far c.in-Ok.ensures.read c.in-Ok.ensures.came c.turn-s.ensures wrote c.if-got.false
+          c.in-Ok.ensures.some;
     }
 
 pub returns : goal.returns
