@@ -4,6 +4,10 @@ use mathlib.Core.Bool.{true, false}
 use mathlib.Core.List.{List, [], ◌∷◌}
 use Prim.Native.Nat.{ℕ, suc, ◌+◌, ◌≤◌, ◌<◌}
 use native.Mathlib.Omega.{arith}
+use Rattle.std.specs.Prelude.{Option, Some, None}
+use Rattle.std.specs.Option.{option_eq}
+use Rattle.std.specs.Slice.{IsItemAt}
+use Rattle.std.proofs.Common.{Bor, sym, ap, ◌∙◌}
 use lib.Dec.{eqb}
 use lib.ListN.{length, drop, get_or, drop_of_length-le}
 use lib.Seq.{drop-cons, drop-drop}
@@ -20,6 +24,13 @@ marked_here s i h = rw (drop-cons s i 0 h)
 pub marked_none : (s : List ℕ) (i : ℕ) → length s ≤ i → marked (drop i s) ≡ false
 unfolding marked
 marked_none s i h = rw (drop_of_length-le s h)
+
+-- the byte that is lent from a place, if there is one, against the mark
+pub marked_at : (s : List ℕ) (i : ℕ) (byte : Option (Bor ℕ)) (m : Bor ℕ) → m.now ≡ mark → IsItemAt s i byte
+    → option_eq (λ x y. eqb x.now y.now) byte (Some m) ≡ marked (drop i s)
+marked_at s i None m e h = sym (marked_none s i h.3)
+marked_at s i (Some x) m e h =
+    ap (λ n. eqb n m.now) (h.4 (omega arith) 0) ∙ ap (λ n. eqb (get_or s i 0) n) e ∙ sym (marked_here s i h.3.0)
 
 -- a line that an LF ends, and one that none ends
 pub whole_size : (s : List ℕ) → line_length s < length s → line_size s ≡ suc (line_length s)

@@ -17,6 +17,22 @@ ghost use Rattle.runs.specs.Marks.{mark_size};
 // The input is read into so many bytes, and has to be shorter; as many hold the answers to a run.
 const BUFFER: usize = 65536;
 
+// Why a program stops before it has answered every line.
+#[derive(Clone, Copy)]
+enum Stopped {
+    InputTooLong,
+    LineLeft,
+}
+
+impl Stopped {
+    fn message(self) -> &'static [u8] {
+        match self {
+            Stopped::InputTooLong => b"runs: the input is too long\n",
+            Stopped::LineLeft => b"runs: a line has no LF, or no room for its answer\n",
+        }
+    }
+}
+
 // Where a message can't be written either, there is no one left to tell.
 fn tell<E: Write>(errors: &mut E, message: &[u8]) {
     let _ = errors.write_all(message);
@@ -26,15 +42,14 @@ fn tell<E: Write>(errors: &mut E, message: &[u8]) {
 fn read_full<R: Read>(input: &mut R, buffer: &mut [u8]) -> usize
     ensures { result ≤ length buffer.new }
 {
-    let mut count = 0;
-    while count < buffer.len() {
-        let moved = input.read(&mut buffer[count..]).unwrap_or(0);
-        if moved == 0 {
-            break;
-        }
-        count += moved;
+    let size = buffer.len();
+    let mut rest = buffer;
+    while !rest.is_empty()
+        && let Ok(moved @ 1..) = input.read(rest)
+    {
+        rest = &mut rest[moved..];
     }
-    count
+    size - rest.len()
 }
 
 // Answers the lines of a run, which stand behind its mark, as a program does that has just begun.
@@ -44,44 +59,41 @@ fn answer_run(run: &[u8], out: &mut [u8]) -> Lines
     answer_lines(Keeper::fresh(), run, mark_size(run), out)
 }
 
-// Writes a run's mark and its answers, and tells whether every line was answered. A write that fails is seen where the output is compared.
-fn write_run<W: Write>(output: &mut W, run: &[u8], out: &mut [u8]) -> bool {
-    let mark = mark_size(run);
+// Writes a run's mark and its answers, and fails where a line was not answered. A write that fails is seen where the output is compared.
+fn write_run<W: Write>(output: &mut W, run: &[u8], out: &mut [u8]) -> Result<(), Stopped> {
     let l = answer_run(run, out);
-    let filled = l.filled;
-    let _ = output.write_all(&run[..mark]);
-    let _ = output.write_all(&out[..filled]);
-    l.from == run.len()
-}
-
-fn write_runs<W: Write, E: Write>(output: &mut W, errors: &mut E, bytes: &[u8], out: &mut [u8]) {
-    let mut at = 0;
-    while at < bytes.len() {
-        let end = next_mark(bytes, at);
-        if !write_run(output, &bytes[at..end], out) {
-            tell(
-                errors,
-                b"runs: a line has no LF, or no room for its answer\n",
-            );
-            return;
-        }
-        at = end;
+    let _ = output.write_all(&run[..mark_size(run)]);
+    let _ = output.write_all(&out[..l.filled]);
+    if l.from == run.len() {
+        Ok(())
+    } else {
+        Err(Stopped::LineLeft)
     }
 }
 
-// A read that fails counts as the end of the input, and is seen alike.
-fn main(rt: HostRuntime) {
+fn write_runs<W: Write>(output: &mut W, bytes: &[u8], out: &mut [u8]) -> Result<(), Stopped> {
+    let mut rest = bytes;
+    while !rest.is_empty() {
+        let (run, behind) = rest.split_at(next_mark(rest, 0));
+        write_run(output, run, out)?;
+        rest = behind;
+    }
+    Ok(())
+}
+
+// Reads the whole input and answers its runs. A read that fails counts as the end of the input, and is seen alike.
+fn serve_runs<R: Read, W: Write>(input: &mut R, output: &mut W) -> Result<(), Stopped> {
     let mut buffer = [0u8; BUFFER];
     let mut out = [0u8; BUFFER];
-    let count = read_full(&mut rt.stdin(), &mut buffer);
+    let count = read_full(input, &mut buffer);
     if count == buffer.len() {
-        tell(&mut rt.stderr(), b"runs: the input is too long\n");
-        return;
+        return Err(Stopped::InputTooLong);
     }
-    write_runs(
-        &mut rt.stdout(),
-        &mut rt.stderr(),
-        &buffer[..count],
-        &mut out,
-    );
+    write_runs(output, &buffer[..count], &mut out)
+}
+
+fn main(rt: HostRuntime) {
+    if let Err(stopped) = serve_runs(&mut rt.stdin(), &mut rt.stdout()) {
+        tell(&mut rt.stderr(), stopped.message());
+    }
 }

@@ -11,10 +11,7 @@ const MARK: u8 = b'#';
 fn is_marked(bytes: &[u8], at: usize) -> bool
     ensures { result ≡ marked (drop at bytes.now) }
 {
-    if at < bytes.len() {
-        return bytes[at] == MARK;
-    }
-    false
+    bytes.get(at) == Some(&MARK)
 }
 
 // The place behind the LF of the line that begins at a place; behind its last byte if it has none.
@@ -30,9 +27,10 @@ pub(crate) fn mark_size(run: &[u8]) -> usize
     ensures { result ≡ mark_size run.now }
 {
     if is_marked(run, 0) {
-        return next_line(run, 0);
+        next_line(run, 0)
+    } else {
+        0
     }
-    0
 }
 
 // Where a run ends that begins at a place, with or without a mark: at the next mark, or at the end of the bytes.
@@ -40,10 +38,7 @@ pub(crate) fn next_mark(bytes: &[u8], at: usize) -> usize
     ensures { result ≡ at + run_size (drop at bytes.now) }
 {
     let mut next = next_line(bytes, at);
-    while next < bytes.len() {
-        if is_marked(bytes, next) {
-            return next;
-        }
+    while next < bytes.len() && !is_marked(bytes, next) {
         next = next_line(bytes, next);
     }
     next

@@ -7,4 +7,4 @@ use Rattle.runs.proofs.write_run.Goals as goal
 pub slice_bounds-write_all-end : goal.slice_bounds-write_all-end
 slice_bounds-write_all-end g c =
     let run = c.args.run.now in
-    sym (length-take-le _ run (omega (arith, c.mark_size-mark.ensures, mark_most run)))
+    sym (length-take-le _ run (omega (arith, c.mark_size.ensures, mark_most run)))
