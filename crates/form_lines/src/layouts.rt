@@ -35,7 +35,9 @@ fn put_end(out: &mut [u8], at: usize, n: u64, edges: Interval) -> usize
     put_bytes(out, at, b")")
 }
 
-// `WORD M BETWEEN N (LOWER UPPER))`, where the texts have the bracket and the spaces
+// `WORD M BETWEEN N (LOWER UPPER))`, where the texts have the bracket and the spaces. It is a part of each of its callers, so that the texts' lengths
+// are known where they are copied, and none is copied by a call of C's.
+#[inline(always)]
 pub(crate) fn write_edged(
     out: &mut [u8],
     kept: bool,

@@ -17,10 +17,21 @@ ghost use Rattle.std.specs.Prelude.{◌≡◌};
 ghost use Rattle.refusal.specs.Refusal.{number};
 ghost use Rattle.command.specs.Forms.{start, pass, request, reply, drop, read, waiting, window, flight, rule};
 ghost use Rattle.command.specs.Spelling.{plain_part};
-ghost use Rattle.form_lines.specs.Written.{write_result_of, written_form, refused, written_by_rule};
+ghost use Rattle.form_lines.specs.Written.{write_result, write_result_of, written_form, refused, written_by_rule};
 
-// Refuses with the cause, or with 10 before it, and touches no byte.
-pub fn refuse(out: &[u8], refusal: Refusal) -> Result<usize, Refusal>
+// Refuses with the number, or with 10 before it, and touches no byte.
+#[tactic(auto, using(crate::proofs::WrittenLaws::refused_short, crate::proofs::WrittenLaws::refused_long))]
+pub fn refuse(out: &[u8], number: u8) -> u8
+    ensures { write_result result 0 out.now ≡ refused number out.now }
+{
+    if out.len() < LEAST_OUTPUT {
+        return Refusal::NoRoom.number();
+    }
+    number
+}
+
+// The same of a cause, as the error of a call that writes a line.
+pub fn refuse_with(out: &[u8], refusal: Refusal) -> Result<usize, Refusal>
     ensures { write_result_of result out.now ≡ refused (number refusal) out.now }
 {
     if out.len() < LEAST_OUTPUT {
@@ -65,7 +76,7 @@ pub fn write_start_with_rule_number(
 {
     match Rule::try_from(rule) {
         Ok(rule) => write_start(out, board, rule, claim, edges),
-        Err(refusal) => refuse(out, refusal),
+        Err(refusal) => refuse_with(out, refusal),
     }
 }
 

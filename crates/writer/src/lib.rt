@@ -7,7 +7,7 @@ ghost use Rattle.writer.specs.Written.{written, written_reading};
 
 use command::{Command, Reading};
 use form_lines::{
-    refuse, write_drop, write_flight, write_pass, write_read, write_reply, write_request,
+    refuse_with, write_drop, write_flight, write_pass, write_read, write_reply, write_request,
     write_start, write_waiting, write_window,
 };
 use refusal::Refusal;
@@ -45,6 +45,6 @@ pub fn write_reading(out: &mut [u8], reading: Reading) -> Result<usize, Refusal>
 {
     match reading {
         Ok(command) => write_command(out, command),
-        Err(refusal) => refuse(out, refusal),
+        Err(refusal) => refuse_with(out, refusal),
     }
 }

@@ -7,4 +7,4 @@ pub returns-in-Ok : goal.returns-in-Ok
 returns-in-Ok c = by_rule_ok _ _ _ (sym c.try_from.ensures ∙ c.in-Ok.is) c.write_start.ensures
 
 pub returns-in-Err : goal.returns-in-Err
-returns-in-Err c = by_rule_err _ _ _ (sym c.try_from.ensures ∙ c.in-Err.is) c.refuse.ensures
+returns-in-Err c = by_rule_err _ _ _ (sym c.try_from.ensures ∙ c.in-Err.is) c.refuse_with.ensures

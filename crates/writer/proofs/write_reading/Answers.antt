@@ -9,4 +9,4 @@ returns-in-Ok c = reading_written _ c.in-Ok.is c.write_command.ensures
 
 pub returns-in-Err : goal.returns-in-Err
 unfolding written_reading
-returns-in-Err c = reading_written _ c.in-Err.is c.refuse.ensures
+returns-in-Err c = reading_written _ c.in-Err.is c.refuse_with.ensures

@@ -1,6 +1,6 @@
--- , by whether the buffer is too short.
+-- By whether the buffer is too short.
 use Rattle.form_lines.proofs.WrittenLaws.{refused_short, refused_long}
-use Rattle.form_lines.proofs.refuse.Goals as goal
+use Rattle.form_lines.proofs.refuse_with.Goals as goal
 
 pub returns-then-out-lt-LEAST_OUTPUT : goal.returns-then-out-lt-LEAST_OUTPUT
 returns-then-out-lt-LEAST_OUTPUT c = refused_short _ _ c.if-out-lt-LEAST_OUTPUT.true
