@@ -51,6 +51,8 @@ fn last_word(line: &[u8], at: usize) -> Option<(FormWord, usize)>
     if let Some(next) = word_at(line, at, b"(flight ") {
         return Some((FormWord::Flight, next));
     }
-    let next = word_at(line, at, b"(start ")?;
+    let Some(next) = word_at(line, at, b"(start ") else {
+        return None;
+    };
     Some((FormWord::Edged(Edged::Start), next))
 }

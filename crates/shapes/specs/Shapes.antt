@@ -169,3 +169,4 @@ rest_of (W.Numbered w) line at = shaped_from (numbered_shape w) line at
 rest_of (W.Bare w) line at = shaped_from (bare_shape w) line at
 rest_of W.Window line at = shaped_from window_shape line at
 rest_of W.Flight line at = shaped_from flight_shape line at
+rest_of W.Unknown line at = Err NoShape

@@ -18,10 +18,18 @@ use text::words::word_at;
 fn start_form(line: &[u8], at: usize) -> Reading
     ensures { result ≡ shaped_from start_shape line.now at }
 {
-    let (board, at) = read_number(line, at).ok_or(Refusal::NoShape)?;
-    let (rule, at) = rule_at(line, at).ok_or(Refusal::NoShape)?;
-    let (claim, at) = read_number(line, at).ok_or(Refusal::NoShape)?;
-    let (lower, upper) = last_pair(line, at).ok_or(Refusal::NoShape)?;
+    let Some((board, at)) = read_number(line, at) else {
+        return Err(Refusal::NoShape);
+    };
+    let Some((rule, at)) = rule_at(line, at) else {
+        return Err(Refusal::NoShape);
+    };
+    let Some((claim, at)) = read_number(line, at) else {
+        return Err(Refusal::NoShape);
+    };
+    let Some((lower, upper)) = last_pair(line, at) else {
+        return Err(Refusal::NoShape);
+    };
     accept_start(board, rule, claim, lower, upper)
 }
 
@@ -29,10 +37,18 @@ fn start_form(line: &[u8], at: usize) -> Reading
 fn reply_form(line: &[u8], at: usize) -> Reading
     ensures { result ≡ shaped_from reply_shape line.now at }
 {
-    let (peer, at) = read_number(line, at).ok_or(Refusal::NoShape)?;
-    let at = word_at(line, at, b" ").ok_or(Refusal::NoShape)?;
-    let (tag, at) = read_number(line, at).ok_or(Refusal::NoShape)?;
-    let (trailing, leading) = last_pair(line, at).ok_or(Refusal::NoShape)?;
+    let Some((peer, at)) = read_number(line, at) else {
+        return Err(Refusal::NoShape);
+    };
+    let Some(at) = word_at(line, at, b" ") else {
+        return Err(Refusal::NoShape);
+    };
+    let Some((tag, at)) = read_number(line, at) else {
+        return Err(Refusal::NoShape);
+    };
+    let Some((trailing, leading)) = last_pair(line, at) else {
+        return Err(Refusal::NoShape);
+    };
     accept_reply(peer, tag, trailing, leading)
 }
 
@@ -50,7 +66,9 @@ pub fn edged_form(line: &[u8], at: usize, word: Edged) -> Reading
 pub fn numbered_form(line: &[u8], at: usize, word: Numbered) -> Reading
     ensures { result ≡ shaped_from (numbered_shape word) line.now at }
 {
-    let number = last_number(line, at).ok_or(Refusal::NoShape)?;
+    let Some(number) = last_number(line, at) else {
+        return Err(Refusal::NoShape);
+    };
     match word {
         Numbered::Pass => accept_pass(number),
         Numbered::Request => accept_request(number),
@@ -63,9 +81,9 @@ pub fn numbered_form(line: &[u8], at: usize, word: Numbered) -> Reading
 pub fn bare_form(line: &[u8], at: usize, word: Bare) -> Reading
     ensures { result ≡ shaped_from (bare_shape word) line.now at }
 {
-    if !end_at(line, at) {
+    let true = end_at(line, at) else {
         return Err(Refusal::NoShape);
-    }
+    };
     Ok(match word {
         Bare::Read => Command::Read,
         Bare::Waiting => Command::Waiting,
@@ -76,8 +94,12 @@ pub fn bare_form(line: &[u8], at: usize, word: Bare) -> Reading
 pub fn window_form(line: &[u8], at: usize) -> Reading
     ensures { result ≡ shaped_from window_shape line.now at }
 {
-    let (slot, at) = read_number(line, at).ok_or(Refusal::NoShape)?;
-    let (start, end) = last_pair(line, at).ok_or(Refusal::NoShape)?;
+    let Some((slot, at)) = read_number(line, at) else {
+        return Err(Refusal::NoShape);
+    };
+    let Some((start, end)) = last_pair(line, at) else {
+        return Err(Refusal::NoShape);
+    };
     accept_window(slot, start, end)
 }
 
@@ -85,7 +107,11 @@ pub fn window_form(line: &[u8], at: usize) -> Reading
 pub fn flight_form(line: &[u8], at: usize) -> Reading
     ensures { result ≡ shaped_from flight_shape line.now at }
 {
-    let (peer, at) = read_number(line, at).ok_or(Refusal::NoShape)?;
-    let (out, back) = last_pair(line, at).ok_or(Refusal::NoShape)?;
+    let Some((peer, at)) = read_number(line, at) else {
+        return Err(Refusal::NoShape);
+    };
+    let Some((out, back)) = last_pair(line, at) else {
+        return Err(Refusal::NoShape);
+    };
     accept_flight(peer, out, back)
 }

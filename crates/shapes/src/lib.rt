@@ -3,6 +3,7 @@
 
 use crate::forms::{bare_form, edged_form, flight_form, numbered_form, window_form};
 use command::Reading;
+use refusal::Refusal;
 
 mod forms;
 mod parts;
@@ -32,7 +33,7 @@ pub enum Bare {
     Waiting,
 }
 
-// The form whose word it is, by what follows the word.
+// The form whose word it is, by what follows the word, or that it is no form's.
 #[derive(Clone, Copy)]
 pub enum FormWord {
     Edged(Edged),
@@ -40,6 +41,7 @@ pub enum FormWord {
     Bare(Bare),
     Window,
     Flight,
+    Unknown,
 }
 
 // The line from a place on, as the parts of the form whose word came before.
@@ -53,5 +55,6 @@ pub fn parts_from(line: &[u8], at: usize, word: FormWord) -> Reading
         FormWord::Bare(form) => bare_form(line, at, form),
         FormWord::Window => window_form(line, at),
         FormWord::Flight => flight_form(line, at),
+        FormWord::Unknown => Err(Refusal::NoShape),
     }
 }

@@ -19,7 +19,10 @@ pub fn rule_at(line: &[u8], at: usize) -> Option<(Rule, usize)>
     if let Some(next) = word_at(line, at, b" im ") {
         return Some((Rule::Im, next));
     }
-    Some((Rule::Mm, word_at(line, at, b" mm ")?))
+    let Some(next) = word_at(line, at, b" mm ") else {
+        return None;
+    };
+    Some((Rule::Mm, next))
 }
 
 // 'no byte after its last bracket'
@@ -68,12 +71,25 @@ impl Part for u64 {
 pub fn last_pair<P: Part>(line: &[u8], at: usize) -> Option<(P, P)>
     ensures { result ≡ last_pair P.part_at line.now at }
 {
-    let at = word_at(line, at, b" (")?;
-    let (first, at) = P::read(line, at)?;
-    let at = word_at(line, at, b" ")?;
-    let (second, at) = P::read(line, at)?;
-    let at = word_at(line, at, b"))")?;
-    end_at(line, at).then_some((first, second))
+    let Some(at) = word_at(line, at, b" (") else {
+        return None;
+    };
+    let Some((first, at)) = P::read(line, at) else {
+        return None;
+    };
+    let Some(at) = word_at(line, at, b" ") else {
+        return None;
+    };
+    let Some((second, at)) = P::read(line, at) else {
+        return None;
+    };
+    let Some(at) = word_at(line, at, b"))") else {
+        return None;
+    };
+    let true = end_at(line, at) else {
+        return None;
+    };
+    Some((first, second))
 }
 
 // 'N)' and no byte after it
@@ -81,7 +97,14 @@ pub fn last_pair<P: Part>(line: &[u8], at: usize) -> Option<(P, P)>
 pub fn last_number(line: &[u8], at: usize) -> Option<u64>
     ensures { number_read result ≡ read_parts last_number line.now at }
 {
-    let (n, next) = read_number(line, at)?;
-    let after = word_at(line, next, b")")?;
-    end_at(line, after).then_some(n)
+    let Some((n, next)) = read_number(line, at) else {
+        return None;
+    };
+    let Some(after) = word_at(line, next, b")") else {
+        return None;
+    };
+    let true = end_at(line, after) else {
+        return None;
+    };
+    Some(n)
 }
