@@ -4,7 +4,7 @@ use lib.Signed.{mag}
 use borrow.Author.Rules.{rules}
 use native.Mathlib.Omega.{arith}
 use Rattle.answers.specs.Answers.{finding_word, line_of}
-use Rattle.edge_lines.proofs.EdgeLaws.{edges_short, word_most}
+use Rattle.edge_lines.proofs.EdgeLaws.{edges_put, word_most}
 use Rattle.edge_lines.proofs.replied_line.Goals as goal
 
 pub returns : goal.returns
@@ -15,4 +15,4 @@ returns c k =
     let edges = x.verdict.edges in
     let lower : mag edges.lower < 2 ^ 63 = search rules in
     let upper : mag edges.upper < 2 ^ 63 = search rules in
-    edges_short (finding_word f) x.peer edges (word_most f) (omega (arith, c.ranges)) lower upper (rw c.finding_word-word.ensures at c.edged_line.ensures)
+    edges_put (finding_word f) x.peer edges (word_most f) (omega (arith, c.ranges)) lower upper c.put_finding-at.ensures c.put_edges.ensures

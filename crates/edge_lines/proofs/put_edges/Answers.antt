@@ -6,7 +6,7 @@ use mathlib.Core.List.{append_assoc}
 use Rattle.moment.proofs.Integers.{got}
 use Rattle.writing.proofs.PutsLaws.{one_put, ◌then◌, puts_same}
 use Rattle.answers.specs.Answers.{edges_line}
-use Rattle.edge_lines.proofs.edged_line.Goals as goal
+use Rattle.edge_lines.proofs.put_edges.Goals as goal
 
 pub returns : goal.returns
 unfolding edges_line
@@ -15,9 +15,8 @@ returns c =
     let lower : mag x.edges.lower < 2 ^ 63 = search rules in
     let upper : mag x.edges.upper < 2 ^ 63 = search rules in
     puts_same
-    (one_put c.put_bytes-at.ensures
-    then one_put c.put_number-at.ensures
-    then one_put c.put_bytes-at-2.ensures
+    (one_put c.put_number-at.ensures
+    then one_put c.put_bytes-at.ensures
     then (rw (got x.edges.lower lower, got x.edges.upper upper) at c.put_pair-at.ensures.0)
     then one_put c.put_bytes.ensures)
     (simp append_assoc)
