@@ -49,7 +49,9 @@ impl Keeper {
     pub fn pass_tested(self, ticks: u32) -> Outcome
         ensures { result ≡ apply self (C.Pass ticks) }
     {
-        Tested::of(self).pass(ticks)
+        let keeper = self;
+        let started = keeper.counts_as_started();
+        Tested { keeper, started }.pass(ticks)
     }
 }
 

@@ -52,8 +52,10 @@ pub fn answer_command(image: &mut [u8], command: Command, out: &mut [u8]) -> u32
     requires least_output_in_bounds { least_output ≤ length out.old }
     ensures { CommandImage image.old command out.old result image.new out.new }
 {
+    // The test is called here, and not by `Tested::of`, of which it would be a part, beside a copy of all of the keeper.
     let keeper = load(image);
-    let outcome = apply_command(Tested::of(keeper), command);
+    let started = keeper.counts_as_started();
+    let outcome = apply_command(Tested { keeper, started }, command);
     let answer = outcome.answer;
     let next = outcome.keeper;
     let length = write_answer(out, answer, next);

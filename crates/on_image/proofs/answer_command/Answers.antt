@@ -30,7 +30,7 @@ returns c =
     let out = c.args.out.now in
     let command = c.args.command in
     let loaded : c.load-keeper.result ≡ keeper_in image = c.load-keeper.ensures in
-    let same : c.apply_command-outcome.result ≡ apply (keeper_in image) command = c.apply_command-outcome.ensures ∙ ap (λ (k : Keeper). apply k command) (c.of.ensures ∙ loaded) in
+    let same : c.apply_command-outcome.result ≡ apply (keeper_in image) command = c.apply_command-outcome.ensures ∙ ap (λ (k : Keeper). apply k command) loaded in
     let w = c.write_answer-length in
     let wrote : Wrote (apply (keeper_in image) command).answer (apply (keeper_in image) command).keeper out w.new.out w.result =
     subst (λ (o : Outcome). Wrote o.answer o.keeper out w.new.out w.result) same w.ensures in
